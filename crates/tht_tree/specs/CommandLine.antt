@@ -1,0 +1,137 @@
+-- What the program answers to its words and its input on one worker, and what it then has done.
+use Rattle.std.specs.Prelude.{◌≡◌, ℕ, Bool, true, false, ◌<◌, ◌≤◌, ◌&&◌, bytes_eq, List, [], ◌∷◌, length, codes, take, Option, None, Some, if◌then◌else◌, ⊤}
+use Rattle.std.specs.Io.KnownBytes.{Appends, Keeps}
+use Rattle.tht_tree.specs.declared.file.Source1.{Source1}
+use Rattle.tht_tree.specs.declared.run.End.{End}
+use Rattle.tht_tree.specs.declared.run.End.TheVariants as end
+use Rattle.tht_tree.specs.declared.status.Status.{Status}
+use Rattle.tht_tree.specs.declared.status.Status.TheVariants.{Done, Words, ReadFault, WriteFault, TooLong, Text, Rule, Spent, Big, Memory}
+use Rattle.tht_tree.specs.declared.command.Command.{Command}
+use Rattle.tht_tree.specs.declared.command.Command.TheVariants.{Read}
+use Rattle.tht_tree.specs.declared.command.Reader.{Reader}
+use Rattle.tht_tree.specs.declared.command.Reader.TheVariants.{Run}
+use Rattle.tht_tree.specs.Rules.Files.{IsAccepted, rules_hold}
+use Rattle.tht_tree.specs.Spelling.{IsSpelled, IsSource, IsNoSource}
+use Rattle.tht_tree.specs.Runs.{State, start_of, run_of, cost_of, Ends, GoesLowest}
+use Rattle.tht_tree.specs.Soundness.{IsSound}
+use Rattle.tht_tree.specs.Texts.{report_text, root_names}
+
+-- ---- statuses
+
+-- the exit status; 6 and 11 to 13 are kept for commands to come
+abbrev pub number_of : Status → ℕ
+number_of Done = 0
+number_of Words = 1
+number_of ReadFault = 2
+number_of WriteFault = 3
+number_of TooLong = 4
+number_of Text = 5
+number_of Rule = 7
+number_of Spent = 8
+number_of Big = 9
+number_of Memory = 10
+
+-- the status of a run that ended so
+abbrev pub status_of : End → Status
+status_of (end.Done v) = Done
+status_of (end.Spent b) = Spent
+status_of (end.Big b) = Big
+
+-- ---- words
+
+-- the command that the words ask for, or nothing where they are refused
+abbrev pub asked : List (List ℕ) → Option Command
+asked (command ∷ option ∷ workers ∷ []) =
+    if bytes_eq command (codes "run") && bytes_eq option (codes "--workers") && bytes_eq workers (codes "1")
+    then Some (Read Run) else None
+asked words = None
+
+-- the budget of steps of a run
+abbrev pub budget : ℕ
+budget = 100000
+
+-- the longest input that is read, in bytes
+abbrev pub input_limit : ℕ
+input_limit = 1048576
+
+-- ---- answers
+
+-- a run of the file that always steps the lowest branch, the end that it meets, and the report
+pub record Reports (file : Source1) (status : Status) (output : List ℕ) : Type 0 where
+  pub order : List ℕ
+  pub end : End
+  pub last : State
+  pub runs : run_of file budget order ≡ Some last
+  pub ends : GoesLowest (start_of file budget) order end
+  pub status_is : status ≡ status_of end
+  pub output_is : output ≡ report_text (root_names file) end (cost_of budget last) 0 order
+
+-- what a command answers to a file that it has read, by the status
+abbrev pub Accepts : Reader → Source1 → Status → List ℕ → Type 0
+Accepts Run file Rule output = (rules_hold file ≡ false) × (output ≡ codes "rule\n")
+Accepts Run file status output = IsAccepted file × Reports file status output
+
+-- What a command that reads a source answers to its input, by the status. Refusals come in this order: too long, no
+-- source, a rule; then the run's end.
+abbrev pub FileAnswers : Reader → List ℕ → Status → List ℕ → Type 0
+FileAnswers reader input TooLong output = (input_limit < length input) × (output ≡ codes "too long\n")
+FileAnswers reader input Text output = (length input ≤ input_limit) × IsNoSource input × (output ≡ codes "text\n")
+FileAnswers reader input status output = (file : Source1) × (length input ≤ input_limit) × IsSource input file × Accepts reader file status output
+
+-- the one answer to the words and the input
+abbrev pub Answers : Option Command → List ℕ → Status → List ℕ → Type 0
+Answers None input status output = (status ≡ Words) × (output ≡ codes "words\n")
+Answers (Some (Read reader)) input status output = FileAnswers reader input status output
+
+-- ---- calls
+
+-- the input of a command that reads, where its source tells what it has left
+abbrev pub HasInput : Option Command → Option (List ℕ) → List ℕ → Type 0
+HasInput (Some (Read reader)) left input = left ≡ Some input
+HasInput None left input = ⊤
+
+-- What a call has done that ends with this status, where it had this input: it has appended the output that goes with
+-- the status. Where a push failed it has appended the first bytes of the answer's output, and where a pull failed or
+-- memory ran out nothing.
+abbrev pub HasAnswered : Option Command → List ℕ → Option (List ℕ) → Option (List ℕ) → Status → Type 0
+HasAnswered command input old new ReadFault = Keeps old new
+HasAnswered command input old new Memory = Keeps old new
+HasAnswered command input old new WriteFault =
+    (status : Status) × (output : List ℕ) × (sent : ℕ) × Answers command input status output × Appends old new (take sent output)
+HasAnswered command input old new status = (output : List ℕ) × Answers command input status output × Appends old new output
+
+-- ---- causes
+
+-- the input spells a file that a rule refuses
+abbrev pub IsRefused : List ℕ → Type 0
+IsRefused input = (file : Source1) × IsSource input file × (rules_hold file ≡ false)
+
+-- the run of the file that the input spells ends so, for some branch
+abbrev pub EndsSo : (ℕ → End) → List ℕ → Type 0
+EndsSo ends input = (file : Source1) × (order : List ℕ) × (branch : ℕ) × IsSource input file × GoesLowest (start_of file budget) order (ends branch)
+
+-- whether a status is that of a run that has ended
+abbrev pub ends_a_run : Status → Bool
+ends_a_run Done = true
+ends_a_run Spent = true
+ends_a_run Big = true
+ends_a_run status = false
+
+-- ---- the headline
+
+-- What was appended is the report of a run of the one file that the input spells, in the printed order and
+-- within the budget; the run ends as the status says; the file is accepted and sound; and the order is the lowest-first one.
+pub record RunHasEnded (input : List ℕ) (old new : Option (List ℕ)) (status : Status) : Type 0 where
+  pub file : Source1
+  pub source : IsSource input file
+  pub one_file : (other : Source1) → IsSpelled other input → other ≡ file
+  pub accepted : IsAccepted file
+  pub sound : IsSound file
+  pub order : List ℕ
+  pub last : State
+  pub end : End
+  pub runs : run_of file budget order ≡ Some last
+  pub ends : Ends last end
+  pub status_is : status ≡ status_of end
+  pub text : Appends old new (report_text (root_names file) end (cost_of budget last) 0 order)
+  pub lowest : GoesLowest (start_of file budget) order end
