@@ -1,0 +1,13 @@
+pub mod Choices
+pub mod Sums
+pub mod NewLocals
+pub mod Walks
+pub mod AtomLists
+pub mod AtomHeaps
+pub mod Scopes
+pub mod Statements
+pub mod Exact
+pub mod FormedAfter
+pub mod OneCell
+pub mod RulesSound
+pub mod BodySound

@@ -1,0 +1,125 @@
+// The atoms of a state: one found by its number, changed, added and taken away.
+ghost use Rattle.std.specs.Prelude.{◌≡◌, ◌<◌, ◌≤◌, ◌^◌, All, List, Some, OnOk, OnErr, OnSome, IfErr};
+ghost use Rattle.std.specs.Option.{option_copied};
+ghost use Rattle.tht_tree.specs.declared.assn.Assn.TheVariants.{Own};
+ghost use Rattle.tht_tree.specs.declared.term.Term.{Term};
+ghost use Rattle.tht_tree.specs.declared.term.Term.TheVariants.{Var};
+ghost use Rattle.tht_tree.specs.Rules.Context.{atom_at, with_atom, without_atom};
+ghost use Rattle.tht_tree.specs.Rules.Commands.{proves_equal, is_at_place};
+ghost use Rattle.hoare_rules.specs.NamedCells.{value_in_cell};
+
+use crate::refusal::Refusal;
+use crate::sizes::pair_fits;
+use std::alloc::Global;
+use std::collections::BTreeMap;
+use std::mem;
+use tht_tree::assn::Assn;
+use tht_tree::plain::Name;
+use tht_tree::proof::ProofKind;
+use tht_tree::term::{Term, same_term};
+
+/// The atoms by their numbers.
+pub(crate) type Atoms = BTreeMap<u32, Assn>;
+
+/// Whether the proof proves that the two terms are equal.
+fn proves_equality(proof: ProofKind, a: &Term, b: &Term) -> bool
+    ensures { result ≡ proves_equal proof a.now b.now }
+{
+    match proof {
+        ProofKind::Refl => same_term(a, b),
+    }
+}
+
+/// The atom with this number, where none has a number above those made.
+fn find(atoms: &Atoms, made: u32, number: u64) -> Option<&Assn>
+    requires { All (λ a. a.0 ≤ made) atoms.now.entries }
+    ensures atom { option_copied result ≡ atom_at number atoms.now.entries }
+    ensures numbered { OnSome result (number < 2 ^ 32) }
+{
+    if number > u64::from(made) {
+        return None;
+    }
+    let key = number as u32;
+    atoms.get(&key)
+}
+
+/// The cell that a statement names: by its place, the number of its atom, and the proof that the two agree.
+#[derive(Clone, Copy)]
+pub(crate) struct NamedCell<'a> {
+    pub place: &'a Term,
+    pub number: u64,
+    pub proof: ProofKind,
+}
+
+/// The value in the cell, if there is such an atom and the proof shows that its place is the one that is named.
+pub(crate) fn cell_value<'a>(atoms: &'a Atoms, made: u32, cell: &NamedCell<'_>) -> Option<&'a Term>
+    requires { All (λ a. a.0 ≤ made) atoms.now.entries }
+    ensures value { option_copied result ≡ value_in_cell cell.now.proof cell.now.place.now (atom_at cell.now.number atoms.now.entries) }
+    ensures numbered { OnSome result (cell.now.number < 2 ^ 32) }
+{
+    match find(atoms, made, cell.number)? {
+        Assn::Emp => None,
+        Assn::Own(at, value) => {
+            if pair_fits(cell.place, at) && proves_equality(cell.proof, cell.place, at) {
+                Some(value)
+            } else {
+                None
+            }
+        }
+    }
+}
+
+/// Takes an atom away.
+pub(crate) fn take_atom(atoms: &mut Atoms, number: u64)
+    requires { number < 2 ^ 32 }
+    ensures { atoms.new.entries ≡ without_atom number atoms.old.entries }
+{
+    let key = number as u32;
+    forget(atoms.remove(&key));
+}
+
+fn forget(atom: Option<Assn>) {
+    let _ = atom;
+}
+
+/// Puts another value into the cell of an atom.
+pub(crate) fn set_cell_value(atoms: &mut Atoms, number: u64, value: Term)
+    requires { number < 2 ^ 32 }
+    ensures { (at was : Term) → atom_at number atoms.old.entries ≡ Some (Own at was) → atoms.new.entries ≡ with_atom number (Own at value) atoms.old.entries }
+{
+    let key = number as u32;
+    if let Some(atom) = atoms.get_mut(&key) {
+        set_value(atom, value);
+    }
+}
+
+// Puts another value into a cell.
+fn set_value(atom: &mut Assn, value: Term)
+    ensures { (at was : Term) → atom.old ≡ Own at was → atom.new ≡ Own at value }
+{
+    if let Assn::Own(_, held) = atom {
+        forget_term(mem::replace(held, value));
+    }
+}
+
+fn forget_term(term: Term) {
+    let _ = term;
+}
+
+/// Adds the atom of a cell at the place that this name stands for.
+pub(crate) fn add_cell(
+    alloc: Global,
+    atoms: &mut Atoms,
+    number: u32,
+    name: &Name,
+    value: &Term,
+) -> Result<(), Refusal>
+    ensures ok { OnOk result (atoms.new.entries ≡ with_atom number (Own (Var name.now) value.now) atoms.old.entries) }
+    ensures err { OnErr result (atoms.new.entries ≡ atoms.old.entries) }
+    ensures memory { IfErr result (λ e. e ≡ Refusal.Memory) }
+{
+    let value = value.copy(alloc)?;
+    let place = Term::Var(name.copy()?);
+    atoms.insert(number, Assn::Own(place, value))?;
+    Ok(())
+}

@@ -1,0 +1,13 @@
+// Laws of the rules and of the measure that they are sound by: each function does nothing, and its clause is a law.
+ghost use Rattle.hoare_rules.specs.Laws.{AcceptedIsSound, KeepsFewer};
+
+/// An accepted file is sound: no step of any run of it is a fault, and where main has a value, the cells that are left
+/// satisfy main's postcondition.
+pub fn accepted_is_sound()
+    ensures { AcceptedIsSound }
+{}
+
+/// A branch that keeps to a postcondition for one step more keeps to it.
+pub fn keeps_fewer()
+    ensures { KeepsFewer }
+{}

@@ -1,0 +1,126 @@
+// The walk over the names and sorts of a file.
+ghost use Rattle.std.specs.Prelude.{◌≡◌, ℕ, true, false, ◌&&◌, Some, None, OnOk, IsErrOf, IsTrue};
+ghost use Rattle.tht_tree.specs.declared.proof.Proof.{Proof};
+ghost use Rattle.tht_tree.specs.declared.state.Local.TheVariants.{Variable};
+ghost use Rattle.tht_tree.specs.Values.{is_storable as stores};
+ghost use Rattle.tht_tree.specs.Rules.Context.{no_locals, with_local};
+ghost use Rattle.tht_tree.specs.Rules.Scoping.{assn_scoped, stmt_scope, end_scoped, body_scoped, is_well_sorted};
+ghost use Rattle.hoare_rules.specs.Locals.{locals_of};
+ghost use Rattle.hoare_rules.specs.declared.sorts.WalkEnd.TheVariants.{Memory, Refused};
+
+use crate::scope::{
+    Scope, assn_is_sorted, bind, is_new, is_storable, no_names, term_has_sort, term_is_storable,
+};
+use std::alloc::{AllocError, Global};
+use tht_tree::body::{Body, EndKind, StmtKind};
+use tht_tree::file::{Main, Source1};
+use tht_tree::plain::{Name, Sort};
+use tht_tree::state::Local;
+use tht_tree::term::Term;
+
+/// Why the walk over names and sorts did not end well.
+#[derive(Clone, Copy, Debug, PartialEq, Eq)]
+pub enum WalkEnd {
+    /// A name is not known or not a variable, a name is bound again, or a sort is not the one that must stand there.
+    Refused,
+    /// Want of memory.
+    Memory,
+}
+
+impl From<AllocError> for WalkEnd {
+    ghost from_gives = { λ _ e. e ≡ Memory };
+
+    fn from(_e: AllocError) -> WalkEnd {
+        WalkEnd::Memory
+    }
+}
+
+/// Whether all names of the file are in scope where they stand, all sorts fit, and each name that is bound is new.
+pub fn well_sorted(alloc: Global, file: &Source1) -> Result<(), WalkEnd>
+    ensures ok { OnOk result (is_well_sorted file.now ≡ true) }
+    ensures refused { IsErrOf result WalkEnd.Refused → is_well_sorted file.now ≡ false }
+{
+    walk_post(alloc, &file.main)?;
+    walk_body(alloc, &file.main)
+}
+
+// Main's postcondition, in which its result is known.
+fn walk_post(alloc: Global, main: &Main) -> Result<(), WalkEnd>
+    ensures ok { OnOk result (stores main.now.sort && assn_scoped (with_local no_locals main.now.result (Variable main.now.sort)) main.now.post ≡ true) }
+    ensures refused { IsErrOf result WalkEnd.Refused → stores main.now.sort && assn_scoped (with_local no_locals main.now.result (Variable main.now.sort)) main.now.post ≡ false }
+{
+    let mut scope = no_names(alloc);
+    bind(alloc, &mut scope, &main.result, Local::Variable(main.sort))?;
+    refuse_unless(is_storable(main.sort) && assn_is_sorted(&main.post, &scope))
+}
+
+// Main's body, from no name.
+fn walk_body(alloc: Global, main: &Main) -> Result<(), WalkEnd>
+    ensures ok { OnOk result (body_scoped main.now.sort main.now.body no_locals ≡ true) }
+    ensures refused { IsErrOf result WalkEnd.Refused → body_scoped main.now.sort main.now.body no_locals ≡ false }
+{
+    let mut scope = no_names(alloc);
+    for stmt in main.body.stmts.as_slice() {
+        walk_stmt(alloc, &stmt.kind, &mut scope)?;
+    }
+    refuse_unless(end_has_sort(&main.body.end.kind, main.sort, &scope))
+}
+
+// Whether the body that ends so returns a value of this sort.
+fn end_has_sort(end: &EndKind, sort: Sort, scope: &Scope) -> bool
+    ensures { result ≡ end_scoped sort end.now (locals_of scope.now) }
+{
+    match end {
+        EndKind::Ret(value, _) => term_has_sort(value, sort, scope),
+    }
+}
+
+fn walk_stmt(alloc: Global, stmt: &StmtKind, scope: &mut Scope) -> Result<(), WalkEnd>
+    ensures ok { OnOk result (stmt_scope stmt.now (locals_of scope.old) ≡ Some (locals_of scope.new)) }
+    ensures refused { IsErrOf result WalkEnd.Refused → stmt_scope stmt.now (locals_of scope.old) ≡ None }
+{
+    match stmt {
+        StmtKind::Read(x, sort, place, _, h, _) => walk_read(alloc, x, *sort, place, h, scope),
+        StmtKind::Write(place, value, _, _) => {
+            let is_place = term_has_sort(place, Sort::Loc, scope);
+            refuse_unless(is_place && term_is_storable(value, scope))
+        }
+        StmtKind::Alloc(x, value) => walk_alloc(alloc, x, value, scope),
+        StmtKind::Free(place, _, _) => refuse_unless(term_has_sort(place, Sort::Loc, scope)),
+    }
+}
+
+fn walk_read(
+    alloc: Global,
+    x: &Name,
+    sort: Sort,
+    place: &Term,
+    hyp: &Name,
+    scope: &mut Scope,
+) -> Result<(), WalkEnd>
+    ensures ok { OnOk result ((i : ℕ) (p : Proof) → stmt_scope (StmtKind.Read x.now sort place.now i hyp.now p) (locals_of scope.old) ≡ Some (locals_of scope.new)) }
+    ensures refused { IsErrOf result WalkEnd.Refused → (i : ℕ) (p : Proof) → stmt_scope (StmtKind.Read x.now sort place.now i hyp.now p) (locals_of scope.old) ≡ None }
+{
+    let is_place = term_has_sort(place, Sort::Loc, scope);
+    refuse_unless(is_place && is_storable(sort) && is_new(scope, x))?;
+    bind(alloc, scope, x, Local::Variable(sort))?;
+    refuse_unless(is_new(scope, hyp))?;
+    bind(alloc, scope, hyp, Local::Hypothesis)?;
+    Ok(())
+}
+
+fn walk_alloc(alloc: Global, x: &Name, value: &Term, scope: &mut Scope) -> Result<(), WalkEnd>
+    ensures ok { OnOk result (stmt_scope (StmtKind.Alloc x.now value.now) (locals_of scope.old) ≡ Some (locals_of scope.new)) }
+    ensures refused { IsErrOf result WalkEnd.Refused → stmt_scope (StmtKind.Alloc x.now value.now) (locals_of scope.old) ≡ None }
+{
+    refuse_unless(term_is_storable(value, scope) && is_new(scope, x))?;
+    bind(alloc, scope, x, Local::Variable(Sort::Loc))?;
+    Ok(())
+}
+
+fn refuse_unless(holds: bool) -> Result<(), WalkEnd>
+    ensures ok { OnOk result (IsTrue holds) }
+    ensures refused { IsErrOf result WalkEnd.Refused → holds ≡ false }
+{
+    if holds { Ok(()) } else { Err(WalkEnd::Refused) }
+}

@@ -1,0 +1,10 @@
+pub mod Exact
+pub mod Parts
+pub mod Loops
+pub mod Terms
+pub mod Inner
+pub mod Stmts
+pub mod Files
+pub mod Splits
+pub mod Texts
+pub mod Turns
