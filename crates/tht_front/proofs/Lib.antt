@@ -1,0 +1,15 @@
+pub mod Numbers
+pub mod FirstPieces
+pub mod Lexing
+pub mod Chains
+pub mod WholeTexts
+pub mod Naming
+pub mod Cells
+pub mod Evaluating
+pub mod Stepping
+pub mod Going
+pub mod OrderRuns
+pub mod Answering
+pub mod Lowest
+pub mod Unique
+pub mod Headline

@@ -1,0 +1,107 @@
+-- What the runner keeps and does, as functions of plain values.
+use Rattle.std.specs.Prelude.{ℕ, zero, ◌+◌, Bool, true, false, List, [], ◌∷◌, ◌++◌, length, slice_get, slice_set, Option, Some, None, unwrap_or, bytes_eq, if◌then◌else◌}
+use Rattle.std.specs.BTreeMap.{get_by_text, BTreeMap}
+use Rattle.std.specs.declared.string.String.{String}
+use Rattle.std.specs.declared.alloc.Global.{Global}
+use Rattle.tht_tree.specs.declared.plain.Place.{Place}
+use Rattle.tht_tree.specs.declared.plain.Place.TheVariants.{Cell}
+use Rattle.tht_tree.specs.declared.plain.Sort.{Sort}
+use Rattle.tht_tree.specs.declared.plain.Value.{Value}
+use Rattle.tht_tree.specs.declared.plain.Value.TheVariants as v
+use Rattle.tht_tree.specs.declared.term.Term.{Term, fold-Term}
+use Rattle.tht_tree.specs.declared.term.Term.TheOpen as t
+use Rattle.tht_tree.specs.declared.body.StmtKind.{StmtKind}
+use Rattle.tht_tree.specs.declared.body.StmtKind.TheVariants as s
+use Rattle.tht_tree.specs.Values.{is_small, nat_in, place_in, has_sort, same_value, unit_value}
+
+-- the value of each name, where it has one
+abbrev pub Named : Type 0
+Named = List ℕ → Option Value
+
+abbrev pub values_in : BTreeMap (String Global) Value → Named
+values_in m x = get_by_text m x
+
+-- the value, if it fits the machine
+abbrev pub fitting : Value → Option Value
+fitting w = if is_small w then Some w else None
+
+abbrev pub both : (Value → Value → Option Value) → Option Value → Option Value → Option Value
+both f (Some a) (Some b) = f a b
+both f _ _ = None
+
+abbrev pub evaluated_at : Named → t.Term-F (Option Value) → Option Value
+evaluated_at named (t.Num n) = fitting (v.Nat n)
+evaluated_at named t.Unit = Some v.Unit
+evaluated_at named (t.Var x) = fitting (unwrap_or (named x) unit_value)
+evaluated_at named (t.Add a b) = both (λ x y. fitting (v.Nat (nat_in x + nat_in y))) a b
+evaluated_at named (t.Eq a b) = both (λ x y. Some (v.Bool (same_value x y))) a b
+
+-- the value of a term, if it and each part of it fit
+abbrev pub evaluated : Named → Term → Option Value
+evaluated named = fold-Term (Option Value) (evaluated_at named)
+
+-- the values of the names, and the cells that main has made, in the order of their indexes, none where one was freed
+pub record Store : Type 0 where
+  pub named : Named
+  pub cells : List (Option Value)
+
+abbrev pub flattened : Option (Option Value) → Option Value
+flattened None = None
+flattened (Some o) = o
+
+-- what the cell at a place holds
+abbrev pub held : List (Option Value) → Place → Option Value
+held cells (Cell zero i) = flattened (slice_get cells i)
+held cells _ = None
+
+abbrev pub index_of : Place → ℕ
+index_of (Cell a i) = i
+index_of _ = 0
+
+-- what became of a statement
+pub data Carried : Type 0 where
+  went : Store → Carried
+  too_big : Carried
+  fault : Carried
+
+abbrev pub with_name : Named → List ℕ → Value → Named
+with_name named x w y = if bytes_eq x y then Some w else named y
+
+-- goes on with a term's value
+abbrev pub on_value : Option Value → (Value → Carried) → Carried
+on_value None go = too_big
+on_value (Some w) go = go w
+
+-- goes on with what a cell holds
+abbrev pub on_cell : Option Value → (Value → Carried) → Carried
+on_cell None go = fault
+on_cell (Some w) go = go w
+
+abbrev pub with_cell : Store → Place → Option Value → Store
+with_cell st p o = record st { cells = slice_set st.cells (index_of p) o }
+
+abbrev pub if_sort : Bool → Carried → Carried
+if_sort true what = what
+if_sort false what = fault
+
+abbrev pub after_read : Store → List ℕ → Sort → Term → Carried
+after_read st x sort t = on_value (evaluated st.named t) (λ a. on_cell (held st.cells (place_in a)) (λ w.
+    if_sort (has_sort sort w) (went (record st { named = with_name st.named x w }))))
+
+abbrev pub after_write : Store → Term → Term → Carried
+after_write st t u = on_value (evaluated st.named t) (λ a. on_value (evaluated st.named u) (λ w.
+    on_cell (held st.cells (place_in a)) (λ old. went (with_cell st (place_in a) (Some w)))))
+
+abbrev pub after_alloc : Store → List ℕ → Term → Carried
+after_alloc st x t = on_value (evaluated st.named t) (λ w.
+    went (record { named = with_name st.named x (v.Loc (Cell 0 (length st.cells))); cells = st.cells ++ Some w ∷ [] }))
+
+abbrev pub after_free : Store → Term → Carried
+after_free st t = on_value (evaluated st.named t) (λ a. on_cell (held st.cells (place_in a)) (λ w. went (with_cell st (place_in a) None)))
+
+-- one statement
+abbrev pub carried : StmtKind → Store → Carried
+carried (s.Read x sort t i h p) st = after_read st x sort t
+carried (s.Write t u i p) st = after_write st t u
+carried (s.Alloc x t) st = after_alloc st x t
+carried (s.Free t i p) st = after_free st t

@@ -1,0 +1,20 @@
+//! The program over any source and sink.
+#![tactic(auto)]
+
+mod alone;
+mod answer;
+mod course;
+mod decided;
+mod laws;
+mod parse;
+mod report;
+mod run;
+mod runner;
+mod values;
+mod words;
+
+pub use alone::tht_alone;
+pub use laws::one_answer;
+
+#[cfg(test)]
+mod tests;

@@ -1,0 +1,51 @@
+// Runs of a file on one branch.
+ghost use Rattle.std.specs.Prelude.{◌≡◌, IfOk};
+ghost use Rattle.tht_front.specs.Running.{evaluated};
+ghost use Rattle.tht_front.specs.Carrying.{end_said, returned, store_of};
+ghost use Rattle.tht_front.specs.Outcomes.{Shows};
+
+use crate::course::Course;
+use crate::runner::{Outcome, Runner};
+use std::alloc::{AllocError, Global};
+use tht_tree::body::EndKind;
+use tht_tree::file::Source1;
+use tht_tree::run::End;
+
+/// Carries out main's statements one after the other, at most so many of them, and then its end.
+pub fn run(alloc: Global, file: &Source1, budget: u32) -> Result<Course, AllocError>
+    ensures { IfOk result (Shows file.now budget) }
+{
+    let body = &file.main.body;
+    let mut runner = Runner::new(alloc);
+    let mut steps = 0;
+    for stmt in body.stmts.as_slice() {
+        if steps == budget {
+            return Ok(Course::Ended {
+                end: End::Spent(0),
+                steps,
+            });
+        }
+        match runner.carry_out(&stmt.kind)? {
+            Outcome::Went => steps += 1,
+            Outcome::Big => return Ok(Course::Ended {
+                end: End::Big(0),
+                steps,
+            }),
+            Outcome::Fault => return Ok(Course::Faulted),
+        }
+    }
+    let end = end_of(&runner, &body.end.kind);
+    Ok(Course::Ended { end, steps })
+}
+
+// How a run ends that has come to the end of main's body.
+fn end_of(runner: &Runner, kind: &EndKind) -> End
+    ensures { result ≡ end_said (evaluated (store_of runner.now).named (returned kind.now)) }
+{
+    match kind {
+        EndKind::Ret(term, _) => match runner.value(term) {
+            Some(value) => End::Done(value),
+            None => End::Big(0),
+        },
+    }
+}
