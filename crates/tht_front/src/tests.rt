@@ -27,7 +27,9 @@ main r : unit { emp } {
 const CELL_LEFT: &[u8] = b"tht 1
 main r : nat { emp } {
   x <- alloc (3);
-  ret 3 by emp
+  a : nat <- read x at 1 as h by refl;
+  write x (a + 4) at 1 by refl;
+  ret a by emp
 }
 ";
 
@@ -47,7 +49,7 @@ fn no_memory<E: Drop>(_: E) -> AllocError {
 fn each_source_has_its_status_and_output(rt: HostRuntime) -> Result<(), Fail> {
     let alloc = rt.alloc();
     let words = words_of(alloc, &["run", "--workers", "1"])?;
-    let cases: [(&[u8], Status, &[u8]); 6] = [
+    let cases: [(&[u8], Status, &[u8]); 7] = [
         (
             FIRST,
             Status::Done,
@@ -59,6 +61,11 @@ fn each_source_has_its_status_and_output(rt: HostRuntime) -> Result<(), Fail> {
             b"end big 0\nevents 1\ncost 1\naborts 0\norder\n0\n",
         ),
         (CELL_LEFT, Status::Rule, b"rule\n"),
+        (
+            b"tht 1\nmain r : nat { emp } { ret 3 by emp }\n",
+            Status::Done,
+            b"end done\nresult 3\nevents 0\ncost 0\naborts 0\norder\n",
+        ),
         (
             b"tht 1\nmain r : nat { [r = 7] } { ret 7 by [calc] }\n",
             Status::Text,
