@@ -1,5 +1,3 @@
-pub mod Numbers
-pub mod FirstPieces
 pub mod Lexing
 pub mod Chains
 pub mod WholeTexts

@@ -8,15 +8,14 @@ mod cursor;
 mod file;
 mod inner;
 mod lexer;
-mod pieces;
 mod statement;
 mod term;
 mod token;
-mod words;
 
 use crate::parse::file::whole;
 use crate::parse::lexer::lex;
 use std::alloc::{AllocError, AllocFailed, Global};
+use tht_lex::LexEnd;
 use tht_tree::file::Source1;
 
 /// Why nothing was read.
@@ -46,6 +45,20 @@ impl<T: Drop> From<AllocFailed<T>> for ParseEnd {
 
     fn from(_error: AllocFailed<T>) -> ParseEnd {
         ParseEnd::Memory
+    }
+}
+
+impl From<LexEnd> for ParseEnd {
+    ghost use Rattle.std.specs.Prelude.{◌≡◌};
+    ghost use Rattle.tht_front.specs.Parsing.Tokens.{text_end};
+
+    ghost from_gives = { λ end e. e ≡ text_end end };
+
+    fn from(end: LexEnd) -> ParseEnd {
+        match end {
+            LexEnd::Memory => ParseEnd::Memory,
+            _ => ParseEnd::Text,
+        }
     }
 }
 

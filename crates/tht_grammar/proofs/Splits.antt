@@ -193,6 +193,10 @@ splits_below n [] s p = is_cut (b.no_bytes {p = p})
 splits_below zero (c ∷ i) s p = absurd (omega arith)
 splits_below (suc n) (c ∷ i) s p = class_splits p c i (λ j h q. splits_below n j (omega arith) q) (class_of c) refl
 
--- each text splits in one way
+-- each text splits so
 pub split_exact : (p : Spot) (i : List ℕ) → Splits p i (split_from 0 p i)
 split_exact p i = splits_below (length i) i (omega arith) p
+
+-- and in one way only
+pub split_once : {p : Spot} {i : List ℕ} {s u : Split} → Splits p i s → Splits p i u → s ≡ u
+split_once h k = sym (split_complete h) ∙ split_complete k

@@ -1,23 +1,22 @@
 -- The parser's tokens as the grammar sees them.
-use Rattle.std.specs.Prelude.{◌≡◌, ℕ, List, map, Result, Ok, Err}
+use Rattle.std.specs.Prelude.{◌≡◌, map, Result, Ok, Err}
 use Rattle.std.specs.Global.{Vec}
-use Rattle.std.specs.Str.{IsAscii}
 use Rattle.tht_tree.specs.Tokens.{counts, Tok, tok}
 use Rattle.tht_tree.specs.Splitting.{Split}
+use Rattle.tht_lex.specs.declared.end.LexEnd.{LexEnd}
+use Rattle.tht_lex.specs.declared.end.LexEnd.TheVariants as l
 use Rattle.tht_front.specs.declared.parse.ParseEnd.{ParseEnd}
 use Rattle.tht_front.specs.declared.parse.ParseEnd.TheVariants.{Text, Memory}
 use Rattle.tht_front.specs.declared.parse.token.Token.{Token}
-use Rattle.tht_front.specs.declared.parse.pieces.Piece.{Piece}
-use Rattle.tht_front.specs.declared.parse.pieces.Piece.TheVariants as p
 
 -- a token of a text, where every limit counts
 abbrev pub seen : Token → Tok
 seen t = tok t.kind (record { mark = counts; spot = t.spot; value = t.value; text = t.text.now })
 
--- where the piece is a token, these may be its bytes
-abbrev pub IsTokenText : Piece → List ℕ → Type 0
-IsTokenText (p.Token kind value n) text = IsAscii text
-IsTokenText (p.Gap n) text = Unit {0}
+-- a fault of the bytes is a refusal of their text
+abbrev pub text_end : LexEnd → ParseEnd
+text_end l.Memory = Memory
+text_end _ = Text
 
 abbrev pub IsRefused : Split → Type 0
 IsRefused (Ok ts) = ⊥

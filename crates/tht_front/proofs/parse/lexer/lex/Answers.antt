@@ -1,48 +1,20 @@
-use Rattle.std.proofs.Common.{◌≡◌, ◌<◌, ◌∙◌, sym, subst, ap, arith, length, take, map}
-use Rattle.tht_grammar.specs.Pieces.{size}
-use Rattle.tht_front.specs.Parsing.Pieces.{piece_of}
-use Rattle.tht_front.specs.Parsing.Tokens.{seen, IsTokenText, IsRefused}
-use Rattle.tht_front.proofs.Lexing.{some_left, piece_within, piece_text, lexer_turn, lexer_refuses, lexer_ends}
+use Rattle.std.proofs.Common.{◌∙◌}
+use Rattle.tht_tree.specs.Splitting.{start_spot}
+use Rattle.tht_grammar.specs.Pieces.{split_from}
+use Rattle.tht_grammar.proofs.Splits.{split_complete}
+use Rattle.tht_front.specs.Parsing.Tokens.{text_end}
+use Rattle.tht_front.proofs.Lexing.{fault_lexes, end_lexes}
 use Rattle.tht_front.proofs.parse.lexer.lex.Goals as goal
 
-pub returns-in_default : goal.returns-in_default
-returns-in_default c =
-    let left = c.loop-left.left.now in
-    let some : 0 < length left = some_left (length left) c.is_empty.result c.is_empty.ensures c.loop-left-test.true in
-    subst IsRefused (sym c.loop-left.invariant.so_far) (lexer_refuses (map seen c.loop-left.tokens.items) c.loop-left.spot left some c.in_default.ensures)
-
-pub len-requires : goal.len-requires
-len-requires c =
-    let left = c.loop-left.left.now in
-    let some : 0 < length left = some_left (length left) c.is_empty.result c.is_empty.ensures c.loop-left-test.true in
-    let within = piece_within left c.in-Some.piece some c.in-Some.ensures in
-    let line = c.loop-left.invariant.line in omega arith
-
-pub split_at-requires : goal.split_at-requires
-split_at-requires c =
-    let left = c.loop-left.left.now in
-    let some : 0 < length left = some_left (length left) c.is_empty.result c.is_empty.ensures c.loop-left-test.true in
-    let within = piece_within left c.in-Some.piece some c.in-Some.ensures in omega arith
-
-pub keep-requires : goal.keep-requires
-keep-requires c =
-    let left = c.loop-left.left.now in
-    let some : 0 < length left = some_left (length left) c.is_empty.result c.is_empty.ensures c.loop-left-test.true in
-    let front : c.split_at.result.0.now ≡ take (size (piece_of c.in-Some.piece)) left = c.split_at.ensures.front ∙ ap (λ n. take n left) c.len.ensures in
-    subst (IsTokenText c.in-Some.piece) (sym front) (piece_text left c.in-Some.piece some c.in-Some.ensures)
-
-pub loop-left-preserved : goal.loop-left-preserved
-loop-left-preserved c =
-    let left = c.loop-left.left.now in
-    let some : 0 < length left = some_left (length left) c.is_empty.result c.is_empty.ensures c.loop-left-test.true in
-    let next = lexer_turn left c.in-Some.piece some c.in-Some.ensures (map seen c.loop-left.tokens.items) c.loop-left.spot in
-    let front = c.split_at.ensures.front in
-    let back = c.split_at.ensures.back in
-    let kept = c.in_ok-keep.ensures in
-    let spot = c.spot_after-spot.ensures.value in
-    let len = c.len.ensures in
-    let so_far = c.loop-left.invariant.so_far in
-    record { so_far = so_far ∙ (next ∙ cc); line = omega arith; column = omega arith }
+pub returns-in_err-tokens : goal.returns-in_err-tokens
+returns-in_err-tokens c =
+    let bytes = c.args.bytes.now in
+    let end = c.in_err-tokens.field-0.0 in
+    end_lexes (split_from 0 start_spot bytes) c.from_residual.result (text_end end) (fault_lexes bytes end c.in_err-tokens.ensures.fault) c.from_residual.ensures.1
 
 pub returns : goal.returns
-returns c = c.loop-left.invariant.so_far ∙ lexer_ends (map seen c.loop-left.tokens.items) c.loop-left.spot c.loop-left.left.now c.loop-left-test.ensures
+returns c =
+    let split = split_complete c.in_ok-tokens.ensures.tokens in
+    let read = c.in_ok-read.ensures in
+    let items = c.deref.ensures.value in
+    split ∙ cc

@@ -1,0 +1,4 @@
+pub mod Digits
+pub mod FirstPieces
+pub mod TokenValues
+pub mod Lexing

@@ -1,0 +1,4 @@
+pub mod Tokens
+pub mod Laws
+pub mod Words
+pub mod Pieces
