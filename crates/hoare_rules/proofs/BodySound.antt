@@ -18,7 +18,7 @@ use Rattle.tht_tree.specs.declared.plain.Value.{Value}
 use Rattle.tht_tree.specs.declared.state.Local.TheVariants.{Variable}
 use Rattle.tht_tree.specs.declared.state.Post.{Post}
 use Rattle.tht_tree.specs.Values.{Val, Env, is_storable}
-use Rattle.tht_tree.specs.Syntax.{Names, named, position, trm, stmts_code, end_code}
+use Rattle.tht_tree.specs.Syntax.{Names, named, position, trm, stmts_code, end_code, stmts_of, end_of}
 use Rattle.tht_tree.specs.Terms.{value_of, fits}
 use Rattle.tht_tree.specs.Heaps.{Heap, nothing, IsEmpty}
 use Rattle.tht_tree.specs.Machine.{Leaf, Ended, FrontBig, closed, value, no_env}
@@ -30,7 +30,7 @@ use Rattle.tht_tree.specs.Rules.Context.{Context, Scope, no_context, no_locals, 
 use Rattle.tht_tree.specs.Rules.Commands.{gives, end_holds, after_stmt, on_context, stmts_hold, holds}
 use Rattle.tht_tree.specs.Rules.Files.{IsAccepted}
 use Rattle.tht_tree.specs.Rules.Formed.{IsFormed}
-use Rattle.tht_tree.specs.Rules.Scoping.{stmt_scope, on_scope, stmts_scoped, end_scoped, body_scoped, assn_scoped, is_well_sorted}
+use Rattle.tht_tree.specs.Rules.Scoping.{stmt_scope, on_scope, stmts_scoped, end_scoped, body_scoped, assn_scoped, is_built_assn, is_well_sorted}
 use Rattle.tht_tree.proofs.Outside.{keeps_value, keeps_big}
 use Rattle.tht_tree.proofs.Runs.{keeps_is_sound}
 use Rattle.tht_tree.proofs.TermValues.{Agree}
@@ -76,6 +76,7 @@ module _ (I : Assertion) (above : List ℕ) (b : ℕ) (Q : Goal) (r : Sort) (pos
           let both = both_true (gives g.kind post) (is_nil c.atoms) e in
           keeps_value I k above b (value vs (trm xs t)) h Q (met g.kind both.0 (value vs (trm xs t)) h (no_atoms env c.atoms h both.1 s.atoms))
       pick false = keeps_big I k above b h Q
+  end_keeps _ k c env xs vs h e s = cc
 
   stmts_keep : (ss : List Stmt) (end : EndKind) (k : ℕ) (c : Context) (env : Env) (xs : Names) (vs : List Val) (h : Heap) →
       IsFormed c → stmts_scoped ss (end_scoped r end) c.scope ≡ true → stmts_hold ss (end_holds end post) c ≡ true → Agree c.scope no_env vs xs env [] [] → SatisfiesState env c h →
@@ -102,12 +103,12 @@ covered env (y ∷ ys) x h = elim (bytes_tell y x) [
 
 pub body_keeps : (c : Context) (body : Body) (post : Post) → IsFormed c → body_scoped post.sort body c.scope ≡ true → holds body post.assn c ≡ true → BodyKeeps c body post
 body_keeps c body post formed scoped held k b above env xs h covers s =
-    stmts_keep no_invariant above b (post_of env post.result post.assn) post.sort post.assn (met post.assn) body.stmts body.end.kind k c env xs (map env xs) h formed scoped held
+    stmts_keep no_invariant above b (post_of env post.result post.assn) post.sort post.assn (λ g. met g post.assn) (stmts_of body) (end_of body) k c env xs (map env xs) h formed scoped held
     (λ x r e. covered env xs x (covers x r e)) s
   where
-    met : (p : Assn) (g : GiveKind) → gives g p ≡ true → (v : Value) (h : Heap) → IsEmpty h → post_of env post.result p v h
-    met a.Emp Emp e v h w = w
-    met (a.Own t u) Emp e v h w = cc
+    met : (g : GiveKind) (p : Assn) → gives g p ≡ true → (v : Value) (h : Heap) → IsEmpty h → post_of env post.result p v h
+    met Emp a.Emp e v h w = w
+    met _ _ e v h w = cc
 
 nothing_formed : IsFormed no_context
 unfolding IsStrictlySortedBy
@@ -126,7 +127,7 @@ pub body_is_scoped : (file : Source1) → is_well_sorted file ≡ true → body_
 body_is_scoped file e =
     let main = file.main in
     let post = assn_scoped (with_local no_locals main.result (Variable main.sort)) main.post in
-    (both_true (is_storable main.sort && post) (body_scoped main.sort main.body no_locals) e).1
+    (both_true (is_nil file.decls && is_storable main.sort && is_built_assn main.post && post) (body_scoped main.sort main.body no_locals) e).1
 
 -- an accepted file is sound
 pub accepted_sound : (file : Source1) → IsAccepted file → IsSound file

@@ -23,6 +23,7 @@ use Rattle.tht_tree.specs.Rules.Commands.{is_at_place, on_cell, if_fits, after_r
 use Rattle.tht_tree.specs.Rules.Scoping.{is_of, sort_of}
 use Rattle.tht_tree.specs.Rules.Sizes.{nodes, nodes_at, assn_nodes, formula_fits, assn_fits}
 use Rattle.tht_tree.proofs.TermFolds.{at-Var, at-Eq}
+use Rattle.hoare_rules.proofs.CellSizes.{own_nodes}
 use Rattle.hoare_rules.specs.NamedCells.{value_in_cell}
 use Rattle.hoare_rules.proofs.AtomLists.{Atoms, none_at}
 use Rattle.hoare_rules.proofs.Statements.{place_is, read_context, write_context, alloc_context, free_context}
@@ -79,11 +80,11 @@ pub record FindsCell (c : Context) (t : Term) (i : ℕ) (p : ProofKind) (v : Ter
 
 cell_found : (p : ProofKind) (t v : Term) (o : Option Assn) → value_in_cell p t o ≡ Some v → (o ≡ Some (a.Own t v)) × (is_at_place p t t ≡ true)
 cell_found p t v None e = cc
-cell_found p t v (Some a.Emp) e = cc
 cell_found p t v (Some (a.Own at u)) e =
     let h = if_some (is_at_place p t at) (Some u) v e in
     let same : t ≡ at = place_is p t at h.0 in
     (ap Some (ap (λ z. a.Own z u) (sym same) ∙ ap (λ z. a.Own t z) (some_same u v h.1)), subst (λ z. is_at_place p t z ≡ true) (sym same) h.0)
+cell_found p t v (Some _) e = cc
 
 pub finds_cell : (c : Context) (t : Term) (i : ℕ) (p : ProofKind) (v : Term) → value_in_cell p t (atom_at i c.atoms) ≡ Some v → FindsCell c t i p v
 finds_cell c t i p v e = let h = cell_found p t v (atom_at i c.atoms) e in record { at = h.0; proved = h.1 }
@@ -95,12 +96,12 @@ some_none u e = cc
 none_found : (p : ProofKind) (t : Term) (o : Option Assn) (go : Term → Term → Bool) (next : Term → Term → Option Context) →
     ((place value : Term) → go place value ≡ true → is_at_place p t place ≡ true) → value_in_cell p t o ≡ None → on_cell o (λ place value. cond (go place value) (next place value) None) ≡ None
 none_found p t None go next needs e = refl
-none_found p t (Some a.Emp) go next needs e = refl
 none_found p t (Some (a.Own at u)) go next needs e = pick (go at u) refl
   where
     pick : (b : Bool) → go at u ≡ b → cond (go at u) (next at u) None ≡ None
     pick true f = absurd (some_none u (sym (ap (λ b. cond b (Some u) None) (needs at u f)) ∙ e))
     pick false f = ap (λ b. cond b (next at u) None) f
+none_found p t (Some _) go next needs e = refl
 
 pub no_read : (c : Context) (x : List ℕ) (r : Sort) (t : Term) (i : ℕ) (h : List ℕ) (p : ProofKind) → value_in_cell p t (atom_at i c.atoms) ≡ None → after_read c x r t i h p ≡ None
 no_read c x r t i h p e =
@@ -114,7 +115,7 @@ module _ (c : Context) (t : Term) (i : ℕ) (p : ProofKind) (v : Term) (found : 
   free_is = ap (λ o. on_cell o (λ place value. cond (is_at_place p t place) (if_fits (free_context c i)) None)) found.at ∙ ap (λ b. cond b (if_fits (free_context c i)) None) found.proved
 
   pub free_size : context_nodes (free_context c i) + (nodes t + nodes v + 1) ≡ context_nodes c
-  free_size = let e = size_without i c.atoms (a.Own t v) found.at in omega (arith, e)
+  free_size = let e = size_without i c.atoms (a.Own t v) found.at in let g = own_nodes t v in omega (arith, e, g)
 
   -- what is left of the count
   pub free_left : (n s : ℕ) → n ≡ context_nodes c → n < 2 ^ 64 → s ≡ min (nodes t + nodes v + 1) (2 ^ 64 - 1) → (s ≤ n) × (n - s ≡ min (context_nodes (free_context c i)) (2 ^ 64 - 1))
@@ -126,7 +127,7 @@ module _ (c : Context) (t : Term) (i : ℕ) (p : ProofKind) (v : Term) (found : 
       ∙ ap (λ b. cond (b && assn_fits (a.Own t u)) (if_fits (write_context c i t u)) None) found.proved
 
   pub write_size : (u : Term) → IsStrictlySortedBy nat_cmp (keys_of c.atoms) → context_nodes (write_context c i t u) + nodes v ≡ context_nodes c + nodes u
-  write_size u sorted = let e = size_with i (a.Own t u) c.atoms (Some (a.Own t v)) sorted found.at in omega (arith, e)
+  write_size u sorted = let e = size_with i (a.Own t u) c.atoms (Some (a.Own t v)) sorted found.at in let g = own_nodes t u in let h = own_nodes t v in omega (arith, e, g, h)
 
   pub value_within : (n s : ℕ) → n ≡ context_nodes c → s ≡ min (nodes v) (2 ^ 64 - 1) → s ≤ n
   value_within n s counted size = let e = free_size in omega arith
@@ -157,7 +158,8 @@ pub alloc_size : (c : Context) (x : List ℕ) (t : Term) → IsStrictlySortedBy 
 alloc_size c x t sorted numbered =
     let e = size_with (c.made + 1) (a.Own (term.Var x) t) c.atoms None sorted (none_new c.made (c.made + 1) c.atoms numbered (omega arith)) in
     let g : nodes (term.Var x) ≡ 1 = at-Var ℕ nodes_at x in
-    omega (arith, e, g)
+    let h = own_nodes (term.Var x) t in
+    omega (arith, e, g, h)
 
 -- the count with those of a name and a term
 pub more_left : (d : Context) (size n s m : ℕ) (v : Term) → context_nodes d ≡ size + (nodes v + 2) → n ≡ size → s ≡ min (nodes v + 2) (2 ^ 64 - 1) → m ≡ min (n + s) (2 ^ 64 - 1) → m ≡ min (context_nodes d) (2 ^ 64 - 1)

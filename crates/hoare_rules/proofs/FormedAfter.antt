@@ -1,5 +1,5 @@
 -- What is known after a statement is again in order.
-use Rattle.std.proofs.Common.{◌≡◌, ℕ, ◌+◌, ◌≤◌, true, ◌&&◌, ◌∷◌, [], cond, Option, Some, None, List, sym, ◌∙◌, ap, subst, arith}
+use Rattle.std.proofs.Common.{◌≡◌, ℕ, ◌+◌, ◌≤◌, Bool, true, ◌&&◌, ◌∷◌, [], cond, Option, Some, None, List, sym, ◌∙◌, ap, subst, arith}
 use Rattle.std.specs.Prelude.{All}
 use Rattle.std.specs.Ordering.{is_eq}
 use Rattle.std.proofs.lemmas.List.Elements.{All-push, All-head, All-tail}
@@ -17,7 +17,7 @@ use Rattle.tht_tree.specs.Values.{is_storable}
 use Rattle.tht_tree.specs.Rules.Context.{Context, Scope, with_local, atom_at, with_atom, without_atom}
 use Rattle.tht_tree.specs.Rules.Commands.{after_stmt}
 use Rattle.tht_tree.specs.Rules.Formed.{IsFormed}
-use Rattle.tht_tree.specs.Rules.Scoping.{variable_sort, equation_sort, sort_at, is_of, is_storable_sort, is_new, sort_of, assn_scoped, stmt_scope}
+use Rattle.tht_tree.specs.Rules.Scoping.{variable_sort, equation_sort, sort_at, is_of, is_storable_sort, is_new, sort_of, assn_scoped, is_built_proof, stmt_scope}
 use Rattle.tht_tree.proofs.TermFolds.{at-Var, at-Eq}
 use Rattle.tht_tree.proofs.TermValues.{Extends, sort_of-Extends}
 use Rattle.hoare_rules.proofs.Choices.{both_true, if_some, some_same}
@@ -34,16 +34,16 @@ pub record ReadScoped (x : List ℕ) (r : Sort) (t : Term) (h : List ℕ) (old n
   pub new_hyp : is_new (with_local old x (Variable r)) h ≡ true
   pub after : new ≡ with_local (with_local old x (Variable r)) h Hypothesis
 
-pub read_scoped : (x : List ℕ) (r : Sort) (t : Term) (h : List ℕ) (old new : Scope) →
-    cond (is_of sort.Loc (sort_of old t) && is_storable r && is_new old x && is_new (with_local old x (Variable r)) h)
+pub read_scoped : (built : Bool) (x : List ℕ) (r : Sort) (t : Term) (h : List ℕ) (old new : Scope) →
+    cond (built && is_of sort.Loc (sort_of old t) && is_storable r && is_new old x && is_new (with_local old x (Variable r)) h)
     (Some (with_local (with_local old x (Variable r)) h Hypothesis)) None ≡ Some new → ReadScoped x r t h old new
-read_scoped x r t h old new e =
+read_scoped built x r t h old new e =
     let all = if_some _ _ new e in
-    let three = both_true (is_of sort.Loc (sort_of old t) && is_storable r && is_new old x) (is_new (with_local old x (Variable r)) h) all.0 in
-    let two = both_true (is_of sort.Loc (sort_of old t) && is_storable r) (is_new old x) three.0 in
-    let one = both_true (is_of sort.Loc (sort_of old t)) (is_storable r) two.0 in
+    let three = both_true (built && is_of sort.Loc (sort_of old t) && is_storable r && is_new old x) (is_new (with_local old x (Variable r)) h) all.0 in
+    let two = both_true (built && is_of sort.Loc (sort_of old t) && is_storable r) (is_new old x) three.0 in
+    let one = both_true (built && is_of sort.Loc (sort_of old t)) (is_storable r) two.0 in
     record {
-      place = is_of-true sort.Loc (sort_of old t) one.0;
+      place = is_of-true sort.Loc (sort_of old t) (both_true built (is_of sort.Loc (sort_of old t)) one.0).1;
       storable = one.1;
       new_name = two.1;
       new_hyp = three.1;
@@ -55,11 +55,11 @@ pub record WriteScoped (t u : Term) (old new : Scope) : Type 0 where
   pub storable : is_storable_sort (sort_of old u) ≡ true
   pub after : new ≡ old
 
-pub write_scoped : (t u : Term) (old new : Scope) → cond (is_of sort.Loc (sort_of old t) && is_storable_sort (sort_of old u)) (Some old) None ≡ Some new → WriteScoped t u old new
-write_scoped t u old new e =
+pub write_scoped : (built : Bool) (t u : Term) (old new : Scope) → cond (built && is_of sort.Loc (sort_of old t) && is_storable_sort (sort_of old u)) (Some old) None ≡ Some new → WriteScoped t u old new
+write_scoped built t u old new e =
     let all = if_some _ _ new e in
-    let one = both_true (is_of sort.Loc (sort_of old t)) (is_storable_sort (sort_of old u)) all.0 in
-    record { place = is_of-true sort.Loc (sort_of old t) one.0; storable = one.1; after = sym (some_same _ new all.1) }
+    let one = both_true (built && is_of sort.Loc (sort_of old t)) (is_storable_sort (sort_of old u)) all.0 in
+    record { place = is_of-true sort.Loc (sort_of old t) (both_true built (is_of sort.Loc (sort_of old t)) one.0).1; storable = one.1; after = sym (some_same _ new all.1) }
 
 pub record AllocScoped (x : List ℕ) (t : Term) (old new : Scope) : Type 0 where
   pub storable : is_storable_sort (sort_of old t) ≡ true
@@ -76,10 +76,10 @@ pub record FreeScoped (t : Term) (old new : Scope) : Type 0 where
   pub place : sort_of old t ≡ Some sort.Loc
   pub after : new ≡ old
 
-pub free_scoped : (t : Term) (old new : Scope) → cond (is_of sort.Loc (sort_of old t)) (Some old) None ≡ Some new → FreeScoped t old new
-free_scoped t old new e =
+pub free_scoped : (built : Bool) (t : Term) (old new : Scope) → cond (built && is_of sort.Loc (sort_of old t)) (Some old) None ≡ Some new → FreeScoped t old new
+free_scoped built t old new e =
     let all = if_some _ _ new e in
-    record { place = is_of-true sort.Loc (sort_of old t) all.0; after = sym (some_same _ new all.1) }
+    record { place = is_of-true sort.Loc (sort_of old t) (both_true built (is_of sort.Loc (sort_of old t)) all.0).1; after = sym (some_same _ new all.1) }
 
 -- ---- more names in scope
 
@@ -91,6 +91,7 @@ module _ (old new : Scope) (extends : Extends old new) where
       let place : sort_of new t ≡ sort_of old t = sort_of-Extends old new extends t sort.Loc sorts.0 ∙ sym sorts.0 in
       let value : sort_of new u ≡ sort_of old u = sort_of-Extends old new extends u sorts.1.0 sorts.1.1 ∙ sym sorts.1.1 in
       (λ i. is_of sort.Loc (place i) && is_storable_sort (value i)) ∙ e
+  assn_scoped-Extends _ e = cc
 
   atoms_scoped : (atoms : List (ℕ × Assn)) → All (λ x. assn_scoped old x.1 ≡ true) atoms → All (λ x. assn_scoped new x.1 ≡ true) atoms
   atoms_scoped atoms all k d l = assn_scoped-Extends _ (all k d l)
@@ -171,18 +172,19 @@ formed_read c x r h value f of_sort new_name new_hyp =
 
 pub formed_after : (kind : StmtKind) (c d : Context) (new : Scope) → IsFormed c → stmt_scope kind c.scope ≡ Some new → after_stmt kind c ≡ Some d → IsFormed d × (d.scope ≡ new)
 formed_after (s.Read x r t i h p) c d new f e g =
-    let names = read_scoped x r t h c.scope new e in
+    let names = read_scoped (is_built_proof p.kind) x r t h c.scope new e in
     let rule = reads c x r t i h p.kind d g in
     (subst IsFormed (sym rule.after) (formed_read c x r h rule.value f rule.of_sort names.new_name names.new_hyp), ap (λ z. z.scope) rule.after ∙ sym names.after)
 formed_after (s.Write t u i p) c d new f e g =
-    let names = write_scoped t u c.scope new e in
+    let names = write_scoped (is_built_proof p.kind) t u c.scope new e in
     let rule = writes c t u i p.kind d g in
     (subst IsFormed (sym rule.after) (formed_write c t u rule.value i f rule.at names.storable), ap (λ z. z.scope) rule.after ∙ sym names.after)
-formed_after (s.Alloc x t) c d new f e g =
+formed_after (s.Alloc x (t ∷ [])) c d new f e g =
     let names = alloc_scoped x t c.scope new e in
     let after = allocs c x t d g in
     (subst IsFormed (sym after) (formed_alloc c x t f names.storable names.new_name), ap (λ z. z.scope) after ∙ sym names.after)
 formed_after (s.Free t i p) c d new f e g =
-    let names = free_scoped t c.scope new e in
+    let names = free_scoped (is_built_proof p.kind) t c.scope new e in
     let rule = frees c t i p.kind d g in
     (subst IsFormed (sym rule.after) (formed_free c i f), ap (λ z. z.scope) rule.after ∙ sym names.after)
+formed_after _ c d new f e g = cc

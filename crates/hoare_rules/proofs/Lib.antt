@@ -2,6 +2,7 @@ pub mod Choices
 pub mod Sums
 pub mod NewLocals
 pub mod Walks
+pub mod CellSizes
 pub mod AtomLists
 pub mod AtomHeaps
 pub mod Scopes

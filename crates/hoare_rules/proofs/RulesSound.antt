@@ -23,7 +23,7 @@ use Rattle.tht_tree.specs.Satisfaction.{SatisfiesState, AtomsHold}
 use Rattle.tht_tree.specs.Rules.Context.{Context, Scope, with_local, atom_at, without_atom, with_atom}
 use Rattle.tht_tree.specs.Rules.Commands.{after_stmt}
 use Rattle.tht_tree.specs.Rules.Formed.{IsFormed}
-use Rattle.tht_tree.specs.Rules.Scoping.{sort_of, stmt_scope, is_storable_sort, is_new}
+use Rattle.tht_tree.specs.Rules.Scoping.{sort_of, is_built_proof, stmt_scope, is_storable_sort, is_new}
 use Rattle.tht_tree.proofs.HeapLaws.{Joins-within}
 use Rattle.tht_tree.proofs.Cells.{Joins-change}
 use Rattle.tht_tree.proofs.Acts.{big_acts, read_acts, write_acts, alloc_acts, free_acts}
@@ -185,17 +185,18 @@ module _ (I : Assertion) (k : ℕ) (above : List ℕ) (b : ℕ) (Q : Post) where
     pub rule_keeps : (kind : StmtKind) (d : Context) (new : Scope) (next : Names → Code) → stmt_scope kind c.scope ≡ Some new → after_stmt kind c ≡ Some d → GoesOn d next →
         Keeps I (suc k) above (Leaf b (closed vs (stmt_code kind xs next))) h Q
     rule_keeps (s.Read x r t i y p) d new next e f goes_on =
-        let names = read_scoped x r t y c.scope new e in
+        let names = read_scoped (is_built_proof p.kind) x r t y c.scope new e in
         let rule = reads c x r t i y p.kind d f in
         if_it_fits (all_fit vs (trm xs t ∷ [])) _ _ h (read_keeps x r t i y rule.value next rule.at names.place rule.of_sort names.new_name (subst (λ z. GoesOn z next) rule.after goes_on))
     rule_keeps (s.Write t u i p) d new next e f goes_on =
-        let names = write_scoped t u c.scope new e in
+        let names = write_scoped (is_built_proof p.kind) t u c.scope new e in
         let rule = writes c t u i p.kind d f in
         if_it_fits (all_fit vs (trm xs t ∷ trm xs u ∷ [])) _ _ h (write_keeps t u rule.value i next rule.at names.place names.storable (subst (λ z. GoesOn z next) rule.after goes_on))
-    rule_keeps (s.Alloc x t) d new next e f goes_on =
+    rule_keeps (s.Alloc x (t ∷ [])) d new next e f goes_on =
         let names = alloc_scoped x t c.scope new e in
         if_it_fits (all_fit vs (trm xs t ∷ [])) _ _ h (alloc_keeps x t next names.storable names.new_name (subst (λ z. GoesOn z next) (allocs c x t d f) goes_on))
     rule_keeps (s.Free t i p) d new next e f goes_on =
-        let names = free_scoped t c.scope new e in
+        let names = free_scoped (is_built_proof p.kind) t c.scope new e in
         let rule = frees c t i p.kind d f in
         if_it_fits (all_fit vs (trm xs t ∷ [])) _ _ h (free_keeps t rule.value i next rule.at names.place (subst (λ z. GoesOn z next) rule.after goes_on))
+    rule_keeps _ d new next e f goes_on = cc

@@ -161,6 +161,7 @@ module _ (scope : Scope) (env new : Env) (agree : Agree scope env [] [] new [] [
   Satisfies-env (a.Own t u) h e w =
       let sorts = own_sorts scope t u e in
       (w.0, w.1, w.2, w.3, same_value t sort.Loc sorts.0 ∙ w.4, same_value u sorts.1.0 sorts.1.1 ∙ w.5, w.6)
+  Satisfies-env _ h e w = cc
 
   pub AtomsHold-env : (atoms : Atoms) (h : Heap) → All (λ x. assn_scoped scope x.1 ≡ true) atoms → AtomsHold env atoms h → AtomsHold new atoms h
   AtomsHold-env [] h all w = w

@@ -19,6 +19,7 @@ use Rattle.hoare_rules.proofs.Scopes.{is_of-true}
 
 proved_place : (p : ProofKind) (t place : Term) → proves_equal p t place ≡ true → t ≡ place
 proved_place Refl t place e = same_of-true t place e
+proved_place _ t place e = cc
 
 pub place_is : (p : ProofKind) (t place : Term) → is_at_place p t place ≡ true → t ≡ place
 place_is p t place e = proved_place p t place (both_true (formula_fits (term.Eq t place)) (proves_equal p t place) e).1
@@ -32,8 +33,8 @@ HasCell o go c = (t u : Term) × (o ≡ Some (a.Own t u)) × (go t u ≡ Some c)
 
 on_cell_some : (o : Option Assn) (go : Term → Term → Option Context) (c : Context) → on_cell o go ≡ Some c → HasCell o go c
 on_cell_some None go c e = cc
-on_cell_some (Some a.Emp) go c e = cc
 on_cell_some (Some (a.Own t u)) go c e = (t, u, refl, e)
+on_cell_some (Some _) go c e = cc
 
 -- what is known after each statement
 abbrev pub read_context : Context → List ℕ → Sort → List ℕ → Term → Context

@@ -10,6 +10,7 @@ ghost use Rattle.hoare_rules.specs.NamedCells.{value_in_cell};
 
 use crate::refusal::Refusal;
 use crate::sizes::pair_fits;
+use sqlite_items::Boxed;
 use std::alloc::Global;
 use std::collections::BTreeMap;
 use std::mem;
@@ -22,11 +23,12 @@ use tht_tree::term::{Term, same_term};
 pub(crate) type Atoms = BTreeMap<u32, Assn>;
 
 /// Whether the proof proves that the two terms are equal.
-fn proves_equality(proof: ProofKind, a: &Term, b: &Term) -> bool
-    ensures { result ≡ proves_equal proof a.now b.now }
+fn proves_equality(proof: &ProofKind, a: &Term, b: &Term) -> bool
+    ensures { result ≡ proves_equal proof.now a.now b.now }
 {
     match proof {
         ProofKind::Refl => same_term(a, b),
+        _ => false,
     }
 }
 
@@ -48,24 +50,25 @@ fn find(atoms: &Atoms, made: u32, number: u64) -> Option<&Assn>
 pub(crate) struct NamedCell<'a> {
     pub place: &'a Term,
     pub number: u64,
-    pub proof: ProofKind,
+    pub proof: &'a ProofKind,
 }
 
 /// The value in the cell, if there is such an atom and the proof shows that its place is the one that is named.
 pub(crate) fn cell_value<'a>(atoms: &'a Atoms, made: u32, cell: &NamedCell<'_>) -> Option<&'a Term>
     requires { All (λ a. a.0 ≤ made) atoms.now.entries }
-    ensures value { option_copied result ≡ value_in_cell cell.now.proof cell.now.place.now (atom_at cell.now.number atoms.now.entries) }
+    ensures value { option_copied result ≡ value_in_cell cell.now.proof.now cell.now.place.now (atom_at cell.now.number atoms.now.entries) }
     ensures numbered { OnSome result (cell.now.number < 2 ^ 32) }
 {
     match find(atoms, made, cell.number)? {
-        Assn::Emp => None,
         Assn::Own(at, value) => {
+            let at = at.get();
             if pair_fits(cell.place, at) && proves_equality(cell.proof, cell.place, at) {
-                Some(value)
+                Some(value.get())
             } else {
                 None
             }
         }
+        _ => None,
     }
 }
 
@@ -83,7 +86,7 @@ fn forget(atom: Option<Assn>) {
 }
 
 /// Puts another value into the cell of an atom.
-pub(crate) fn set_cell_value(atoms: &mut Atoms, number: u64, value: Term)
+pub(crate) fn set_cell_value(atoms: &mut Atoms, number: u64, value: Boxed<Term>)
     requires { number < 2 ^ 32 }
     ensures { (at was : Term) → atom_at number atoms.old.entries ≡ Some (Own at was) → atoms.new.entries ≡ with_atom number (Own at value) atoms.old.entries }
 {
@@ -94,7 +97,7 @@ pub(crate) fn set_cell_value(atoms: &mut Atoms, number: u64, value: Term)
 }
 
 // Puts another value into a cell.
-fn set_value(atom: &mut Assn, value: Term)
+fn set_value(atom: &mut Assn, value: Boxed<Term>)
     ensures { (at was : Term) → atom.old ≡ Own at was → atom.new ≡ Own at value }
 {
     if let Assn::Own(_, held) = atom {
@@ -102,7 +105,7 @@ fn set_value(atom: &mut Assn, value: Term)
     }
 }
 
-fn forget_term(term: Term) {
+fn forget_term(term: Boxed<Term>) {
     let _ = term;
 }
 
@@ -118,8 +121,8 @@ pub(crate) fn add_cell(
     ensures err { OnErr result (atoms.new.entries ≡ atoms.old.entries) }
     ensures memory { IfErr result (λ e. e ≡ Refusal.Memory) }
 {
-    let value = value.copy(alloc)?;
-    let place = Term::Var(name.copy()?);
+    let value = Boxed::new(alloc, value.copy(alloc)?)?;
+    let place = Boxed::new(alloc, Term::Var(name.copy()?))?;
     atoms.insert(number, Assn::Own(place, value))?;
     Ok(())
 }

@@ -49,33 +49,37 @@ impl Checker {
         match stmt {
             StmtKind::Read(x, sort, place, number, hyp, proof) => {
                 let cell = NamedCell {
-                    place,
+                    place: place.get(),
                     number: *number,
-                    proof: proof.kind,
+                    proof: &proof.kind,
                 };
                 self.read(alloc, x, *sort, hyp, cell)
             }
             StmtKind::Write(place, value, number, proof) => {
                 let cell = NamedCell {
-                    place,
+                    place: place.get(),
                     number: *number,
-                    proof: proof.kind,
+                    proof: &proof.kind,
                 };
-                self.write(alloc, value, cell)
+                self.write(alloc, value.get(), cell)
             }
-            StmtKind::Alloc(x, value) => self.allocate(alloc, x, value),
+            StmtKind::Alloc(x, cells) => match cells.as_slice() {
+                [value] => self.allocate(alloc, x, value),
+                _ => Err(Refusal::Rule),
+            },
             StmtKind::Free(place, number, proof) => self.free(NamedCell {
-                place,
+                place: place.get(),
                 number: *number,
-                proof: proof.kind,
+                proof: &proof.kind,
             }),
+            _ => Err(Refusal::Rule),
         }
     }
 
     fn write(&mut self, alloc: Global, value: &Term, cell: NamedCell<'_>) -> Result<(), Refusal>
         requires { IsFormed (context_of self.old.state) }
-        ensures ok { OnOk result (after_write (context_of self.old.state) cell.entry.place.now value.now cell.entry.number cell.entry.proof ≡ Some (context_of self.new.state)) }
-        ensures refused { IsErrOf result Refusal.Rule → after_write (context_of self.old.state) cell.entry.place.now value.now cell.entry.number cell.entry.proof ≡ None }
+        ensures ok { OnOk result (after_write (context_of self.old.state) cell.entry.place.now value.now cell.entry.number cell.entry.proof.now ≡ Some (context_of self.new.state)) }
+        ensures refused { IsErrOf result Refusal.Rule → after_write (context_of self.old.state) cell.entry.place.now value.now cell.entry.number cell.entry.proof.now ≡ None }
     {
         let Some(was) = cell_value(&self.state.atoms, self.state.made, &cell) else {
             return Err(Refusal::Rule);
@@ -88,6 +92,7 @@ impl Checker {
             return Err(Refusal::Rule);
         }
         let value = value.copy(alloc)?;
+        let value = Boxed::new(alloc, value)?;
         set_cell_value(&mut self.state.atoms, cell.number, value);
         self.nodes = nodes;
         Ok(())
@@ -95,8 +100,8 @@ impl Checker {
 
     fn free(&mut self, cell: NamedCell<'_>) -> Result<(), Refusal>
         requires { IsFormed (context_of self.old.state) }
-        ensures ok { OnOk result (after_free (context_of self.old.state) cell.entry.place.now cell.entry.number cell.entry.proof ≡ Some (context_of self.new.state)) }
-        ensures refused { IsErrOf result Refusal.Rule → after_free (context_of self.old.state) cell.entry.place.now cell.entry.number cell.entry.proof ≡ None }
+        ensures ok { OnOk result (after_free (context_of self.old.state) cell.entry.place.now cell.entry.number cell.entry.proof.now ≡ Some (context_of self.new.state)) }
+        ensures refused { IsErrOf result Refusal.Rule → after_free (context_of self.old.state) cell.entry.place.now cell.entry.number cell.entry.proof.now ≡ None }
     {
         let Some(value) = cell_value(&self.state.atoms, self.state.made, &cell) else {
             return Err(Refusal::Rule);
@@ -142,8 +147,8 @@ impl Checker {
         cell: NamedCell<'_>,
     ) -> Result<(), Refusal>
         requires { IsFormed (context_of self.old.state) }
-        ensures ok { OnOk result (after_read (context_of self.old.state) name.now sort cell.entry.place.now cell.entry.number hyp.now cell.entry.proof ≡ Some (context_of self.new.state)) }
-        ensures refused { IsErrOf result Refusal.Rule → after_read (context_of self.old.state) name.now sort cell.entry.place.now cell.entry.number hyp.now cell.entry.proof ≡ None }
+        ensures ok { OnOk result (after_read (context_of self.old.state) name.now sort cell.entry.place.now cell.entry.number hyp.now cell.entry.proof.now ≡ Some (context_of self.new.state)) }
+        ensures refused { IsErrOf result Refusal.Rule → after_read (context_of self.old.state) name.now sort cell.entry.place.now cell.entry.number hyp.now cell.entry.proof.now ≡ None }
     {
         let Some(value) = cell_value(&self.state.atoms, self.state.made, &cell) else {
             return Err(Refusal::Rule);

@@ -59,15 +59,16 @@ fn end_is_met(end: &EndKind, post: &Assn, state: &State) -> bool
     ensures { result ≡ end_holds end.now post.now (context_of state.now) }
 {
     match end {
-        EndKind::Ret(_, give) => give_proves(give.kind, post) && state.atoms.is_empty(),
+        EndKind::Ret(_, give) => give_proves(&give.kind, post) && state.atoms.is_empty(),
+        _ => false,
     }
 }
 
-fn give_proves(give: GiveKind, assn: &Assn) -> bool
-    ensures { result ≡ gives give assn.now }
+fn give_proves(give: &GiveKind, assn: &Assn) -> bool
+    ensures { result ≡ gives give.now assn.now }
 {
     match (give, assn) {
         (GiveKind::Emp, Assn::Emp) => true,
-        (GiveKind::Emp, Assn::Own(_, _)) => false,
+        _ => false,
     }
 }

@@ -48,7 +48,7 @@ pub(crate) fn is_storable(sort: Sort) -> bool
 {
     match sort {
         Sort::Nat => true,
-        Sort::Bool => true,
+        Sort::Bool => false,
         Sort::Loc => true,
         Sort::Unit => true,
         Sort::Seq => false,
@@ -65,6 +65,7 @@ pub(crate) fn sort_in(term: &Term, scope: &Scope) -> Option<Sort>
         Term::Var(x) => sort_of_variable(scope, x),
         Term::Add(a, b) => sort_of_sum(sort_in(a.get(), scope), sort_in(b.get(), scope)),
         Term::Eq(a, b) => sort_of_equation(sort_in(a.get(), scope), sort_in(b.get(), scope)),
+        _ => None,
     }
 }
 
@@ -122,7 +123,8 @@ pub(crate) fn assn_is_sorted(assn: &Assn, scope: &Scope) -> bool
     match assn {
         Assn::Emp => true,
         Assn::Own(place, value) => {
-            term_has_sort(place, Sort::Loc, scope) && term_is_storable(value, scope)
+            term_has_sort(place.get(), Sort::Loc, scope) && term_is_storable(value.get(), scope)
         }
+        _ => false,
     }
 }

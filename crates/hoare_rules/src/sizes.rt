@@ -40,6 +40,7 @@ pub(crate) fn pair_size(a: &Term, b: &Term) -> u64
 }
 
 /// Whether an equation or a cell of the two terms is within the limits of one formula.
+#[tactic(auto, using(crate::proofs::CellSizes::own_nodes, crate::proofs::CellSizes::own_levels))]
 pub(crate) fn pair_fits(a: &Term, b: &Term) -> bool
     ensures equation { result ≡ formula_fits (Eq a.now b.now) }
     ensures cell { result ≡ assn_fits (Own a.now b.now) }
@@ -56,6 +57,7 @@ pub(crate) fn named_size(value: &Term) -> u64
 }
 
 /// Whether an equation or a cell of a name and the term is within the limits of one formula.
+#[tactic(auto, using(crate::proofs::CellSizes::named_nodes, crate::proofs::CellSizes::named_levels))]
 pub(crate) fn named_fits(value: &Term) -> bool
     ensures equation { (x : List ℕ) → result ≡ formula_fits (Eq (Var x) value.now) }
     ensures cell { (x : List ℕ) → result ≡ assn_fits (Own (Var x) value.now) }

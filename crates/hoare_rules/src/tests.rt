@@ -8,7 +8,7 @@ use sqlite_items::{Boxed, Items};
 use std::alloc::{AllocError, Global};
 use std::test::Fail;
 use tht_tree::assn::Assn;
-use tht_tree::body::{Body, End, EndKind, Stmt, StmtKind};
+use tht_tree::body::{Body, Cells, End, EndKind, Stmt, StmtKind};
 use tht_tree::file::{Main, Source1};
 use tht_tree::give::{Give, GiveKind};
 use tht_tree::plain::{Name, Sort, Spot};
@@ -18,10 +18,12 @@ use tht_tree::term::Term;
 
 const SPOT: Spot = Spot { line: 1, column: 1 };
 
-const REFL: Proof = Proof {
-    spot: SPOT,
-    kind: ProofKind::Refl,
-};
+fn refl() -> Proof {
+    Proof {
+        spot: SPOT,
+        kind: ProofKind::Refl,
+    }
+}
 
 fn name(alloc: Global, text: &str) -> Result<Name, AllocError> {
     Ok(Name::new(String::from_str(alloc, text)?))
@@ -49,6 +51,11 @@ impl Statements {
         Statements { alloc, stmts }
     }
 
+    fn place(&self, x: &str) -> Result<Boxed<Term>, AllocError> {
+        let place = var(self.alloc, x)?;
+        Boxed::new(self.alloc, place)
+    }
+
     fn push(&mut self, kind: StmtKind) -> Result<(), AllocError> {
         self.stmts.push(Stmt { spot: SPOT, kind })
     }
@@ -56,56 +63,69 @@ impl Statements {
     /// `x <- alloc (value)`
     fn alloc(&mut self, x: &str, value: Term) -> Result<(), AllocError> {
         let x = name(self.alloc, x)?;
-        self.push(StmtKind::Alloc(x, value))
+        let cells = Cells::one(self.alloc, value)?;
+        self.push(StmtKind::Alloc(x, cells))
     }
 
     /// `y : sort <- read x at number as h by refl`
     fn read(&mut self, y: &str, sort: Sort, x: &str, number: u64) -> Result<(), AllocError> {
         let y = name(self.alloc, y)?;
         let hyp = name(self.alloc, "h")?;
-        let place = var(self.alloc, x)?;
-        self.push(StmtKind::Read(y, sort, place, number, hyp, REFL))
+        let place = self.place(x)?;
+        self.push(StmtKind::Read(y, sort, place, number, hyp, refl()))
     }
 
     /// `write x (y + 1) at number by refl`
     fn write_next(&mut self, x: &str, y: &str, number: u64) -> Result<(), AllocError> {
-        let place = var(self.alloc, x)?;
-        let left = Boxed::new(self.alloc, var(self.alloc, y)?)?;
+        let place = self.place(x)?;
+        let left = self.place(y)?;
         let right = Boxed::new(self.alloc, Term::Num(1))?;
-        self.push(StmtKind::Write(place, Term::Add(left, right), number, REFL))
+        let value = Boxed::new(self.alloc, Term::Add(left, right))?;
+        self.push(StmtKind::Write(place, value, number, refl()))
     }
 
     /// `free x at number by refl`
     fn free(&mut self, x: &str, number: u64) -> Result<(), AllocError> {
-        let place = var(self.alloc, x)?;
-        self.push(StmtKind::Free(place, number, REFL))
+        let place = self.place(x)?;
+        self.push(StmtKind::Free(place, number, refl()))
     }
 
     /// `ret value by emp`
     fn ret(self, value: Term) -> Result<Source1, AllocError> {
-        let result = name(self.alloc, "r")?;
+        let alloc = self.alloc;
+        let value = Boxed::new(alloc, value)?;
+        let body = self.returning(value)?;
+        main_of(alloc, body)
+    }
+
+    fn returning(self, value: Boxed<Term>) -> Result<Boxed<Body>, AllocError> {
+        let Statements { alloc, stmts } = self;
         let give = Give {
             spot: SPOT,
             kind: GiveKind::Emp,
         };
-        let Statements { alloc: _, stmts } = self;
-        Ok(Source1 {
-            version: 1,
-            main: Main {
-                spot: SPOT,
-                result,
-                sort: Sort::Nat,
-                post: Assn::Emp,
-                body: Body {
-                    stmts,
-                    end: End {
-                        spot: SPOT,
-                        kind: EndKind::Ret(value, give),
-                    },
-                },
-            },
-        })
+        let end = End {
+            spot: SPOT,
+            kind: EndKind::Ret(value, give),
+        };
+        Boxed::new(alloc, Body { stmts, end })
     }
+}
+
+/// `main r : nat { emp } { .. }`
+fn main_of(alloc: Global, body: Boxed<Body>) -> Result<Source1, AllocError> {
+    let result = name(alloc, "r")?;
+    Ok(Source1 {
+        version: 1,
+        decls: Items::new(alloc),
+        main: Main {
+            spot: SPOT,
+            result,
+            sort: Sort::Nat,
+            post: Assn::Emp,
+            body,
+        },
+    })
 }
 
 #[derive(Clone, Copy, Debug, PartialEq, Eq)]
@@ -147,7 +167,7 @@ fn check(alloc: Global, file: &Source1) -> Answer {
             let Some(post) = post_of(alloc, &file.main) else {
                 return Answer::Memory;
             };
-            answer_of_rules(body_holds(alloc, State::new(alloc), &file.main.body, &post))
+            answer_of_rules(body_holds(alloc, State::new(alloc), file.main.body.get(), &post))
         }
     }
 }
@@ -191,7 +211,7 @@ fn wrong_place(alloc: Global) -> Result<Source1, AllocError> {
 fn wrong_sort(alloc: Global) -> Result<Source1, AllocError> {
     let mut stmts = Statements::new(alloc);
     stmts.alloc("x", Term::Num(5))?;
-    stmts.read("y", Sort::Bool, "x", 1)?;
+    stmts.read("y", Sort::Unit, "x", 1)?;
     stmts.free("x", 1)?;
     stmts.ret(Term::Num(0))
 }
@@ -215,6 +235,20 @@ fn hypothesis_as_variable(alloc: Global) -> Result<Source1, AllocError> {
     stmts.read("y", Sort::Nat, "x", 1)?;
     stmts.free("x", 1)?;
     stmts.ret(var(alloc, "h")?)
+}
+
+// Bool is no sort of a cell yet.
+fn read_of_bool(alloc: Global) -> Result<Source1, AllocError> {
+    let mut stmts = Statements::new(alloc);
+    stmts.alloc("x", Term::Num(5))?;
+    stmts.read("y", Sort::Bool, "x", 1)?;
+    stmts.free("x", 1)?;
+    stmts.ret(Term::Num(0))
+}
+
+// No term but those of the first forms has a sort yet.
+fn unbuilt_term(alloc: Global) -> Result<Source1, AllocError> {
+    Statements::new(alloc).ret(Term::Null)
 }
 
 // A place is returned for a number.
@@ -252,5 +286,7 @@ fn the_walk_refuses(rt: HostRuntime) -> Result<(), Fail> {
         Answer::BadNames
     );
     assert_eq!(rt; check(alloc, &sort_clash(alloc)?), Answer::BadNames);
+    assert_eq!(rt; check(alloc, &read_of_bool(alloc)?), Answer::BadNames);
+    assert_eq!(rt; check(alloc, &unbuilt_term(alloc)?), Answer::BadNames);
     Ok(())
 }

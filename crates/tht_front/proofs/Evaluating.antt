@@ -5,12 +5,13 @@ use Rattle.tht_tree.specs.declared.plain.Value.TheVariants as v
 use Rattle.tht_tree.specs.declared.term.Term.{Term}
 use Rattle.tht_tree.specs.declared.term.Term.TheVariants as t
 use Rattle.tht_tree.specs.Values.{Val, is, value_in, nat_in, unit_value, is_small_val, same_value}
-use Rattle.tht_tree.specs.Syntax.{Trm, bound, op, add, eq, Names, position, named, trm, trm_at}
+use Rattle.tht_tree.specs.Syntax.{Trm, lit, bound, op, add, eq, Names, position, named, trm, trm_at}
 use Rattle.tht_tree.specs.Terms.{nth, value_of, fits}
 use Rattle.tht_tree.specs.Machine.{no_env, value}
 use Rattle.tht_front.specs.Running.{Named, fitting, both, evaluated, evaluated_at}
 use Rattle.tht_tree.specs.declared.term.Term.TheOpen as f
 use Rattle.tht_tree.proofs.TermFolds as F
+use Rattle.tht_tree.proofs.UnbuiltTerms.{is_built, is_built_level, unbuilt}
 
 -- ---- names
 
@@ -77,6 +78,29 @@ trm-Add xs a b = ap (trm xs) (sym (F.Add-is a b)) ∙ F.at-Add Trm (trm_at xs) a
 trm-Eq : (xs : Names) (a b : Term) → trm xs (F.Eq a b) ≡ op eq (trm xs a) (trm xs b)
 trm-Eq xs a b = ap (trm xs) (sym (F.Eq-is a b)) ∙ F.at-Eq Trm (trm_at xs) a b
 
+-- a term whose outermost form is not built is ()
+unit_at : (n : Named) (x : f.Term-F (Option Value)) → is_built_level x ≡ false → evaluated_at n x ≡ Some v.Unit
+unit_at n (f.Num k) e = cc
+unit_at n f.Unit e = cc
+unit_at n (f.Var x) e = cc
+unit_at n (f.Add a b) e = cc
+unit_at n (f.Eq a b) e = cc
+unit_at n _ e = refl
+
+evaluated-unbuilt : (n : Named) (t : Term) → is_built t ≡ false → evaluated n t ≡ Some v.Unit
+evaluated-unbuilt n t e = unbuilt (Option Value) (evaluated_at n) (Some v.Unit) (unit_at n) t e
+
+literal_at : (xs : Names) (x : f.Term-F Trm) → is_built_level x ≡ false → trm_at xs x ≡ lit (is v.Unit)
+literal_at xs (f.Num k) e = cc
+literal_at xs f.Unit e = cc
+literal_at xs (f.Var x) e = cc
+literal_at xs (f.Add a b) e = cc
+literal_at xs (f.Eq a b) e = cc
+literal_at xs _ e = refl
+
+trm-unbuilt : (xs : Names) (t : Term) → is_built t ≡ false → trm xs t ≡ lit (is v.Unit)
+trm-unbuilt xs t e = unbuilt Trm (trm_at xs) (lit (is v.Unit)) (literal_at xs) t e
+
 abbrev if_fits : Bool → Value → Option Value
 if_fits b w = if b then Some w else None
 
@@ -119,3 +143,4 @@ module _ (vs : List Val) where
         (let ha = means a in let hb = means b in
         joined eq (trm xs a) (trm xs b) (evaluated n a) (evaluated n b) _ (λ x y. Some (v.Bool (same_value x y)))
         (v.Bool (same_value (value vs (trm xs a)) (value vs (trm xs b)))) ha hb (rw (ha.stored, hb.stored) refl) refl refl)
+    means t = rw (evaluated-unbuilt n t refl, trm-unbuilt xs t refl) (record { stored = refl; answer = refl })

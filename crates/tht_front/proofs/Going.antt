@@ -10,8 +10,10 @@ use Rattle.tht_tree.specs.declared.body.EndKind.TheVariants as e
 use Rattle.tht_tree.specs.declared.run.End.{End}
 use Rattle.tht_tree.specs.declared.run.End.TheVariants.{Spent}
 use Rattle.tht_tree.specs.declared.run.End.TheVariants.{Big as BigEnd}
-use Rattle.tht_tree.specs.Values.{Val, is}
-use Rattle.tht_tree.specs.Syntax.{Names, Code, ret, trm, stmt_code, stmts_code, end_code}
+use Rattle.tht_tree.specs.declared.term.Term.TheVariants as term
+use Rattle.tht_tree.proofs.TermFolds.{at-Unit}
+use Rattle.tht_tree.specs.Values.{Val, is, unit_value}
+use Rattle.tht_tree.specs.Syntax.{Names, Code, ret, trm, stmt_code, stmts_code, end_code, stmts_of, end_of}
 use Rattle.tht_tree.specs.declared.plain.Place.TheVariants.{Null, Root, Cell}
 use Rattle.tht_tree.specs.Heaps.{nothing}
 use Rattle.tht_front.proofs.Cells.{IsHeapOf}
@@ -19,7 +21,7 @@ use Rattle.tht_tree.specs.Terms.{fits}
 use Rattle.tht_tree.specs.Machine.{Mem, Prog, Ended, FrontBig, Leaf, closed, no_env, value, Said, Next, Cannot, Big, Longer, Moved, step_of}
 use Rattle.tht_tree.specs.Runs.{State, entered, step_in, on_moved, follow, start_of, run_of, IsLowest, EndsLowest, GoesLowest}
 use Rattle.tht_tree.specs.Soundness.{IsSafe}
-use Rattle.tht_front.specs.Running.{Store, went, too_big, fault, evaluated, carried}
+use Rattle.tht_front.specs.Running.{Store, went, too_big, fault, evaluated, evaluated_at, carried}
 use Rattle.tht_front.specs.Carrying.{returned, end_said}
 use Rattle.tht_front.specs.Outcomes.{RunEnds, RunFaults}
 use Rattle.tht_front.proofs.Evaluating.{Means}
@@ -75,6 +77,7 @@ finish (e.Ret u g) xs ws st t stands tree =
     let vs : List Val = map is ws in
     let h : Means vs (evaluated st.named u) (trm xs u) = terms 0 t.mem (λ ys. ret (trm ys u)) st xs ws stands u in
     end_at (fits no_env vs (trm xs u)) (value vs (trm xs u)) (evaluated st.named u) t h.answer tree
+finish _ xs ws st t stands tree = end_at true unit_value (evaluated st.named term.Unit) t (at-Unit (Option Value) (evaluated_at st.named)) tree
 
 drop_all : (i : ℕ) (xs : List Stmt) → length xs ≤ i → drop i xs ≡ []
 drop_all zero [] l = refl
@@ -92,7 +95,7 @@ no_cells (Cell (suc a) i) = refl
 
 module _ (file : Source1) (budget : ℕ) where
   abbrev last : Names → Code
-  last = end_code file.main.body.end.kind
+  last = end_code (end_of file.main.body)
 
   -- after so many steps branch 0 is about to carry out these statements, with what the runner keeps
   pub record About (steps : ℕ) (st : Store) (stmts : List Stmt) : Type 0 where
@@ -104,9 +107,9 @@ module _ (file : Source1) (budget : ℕ) where
     pub tree : state.tree ≡ Leaf 0 (closed (map is ws) (stmts_code stmts last xs))
     pub stands : StandsFor st xs ws state.mem
 
-  pub begins : (st : Store) → st ≡ record { named = λ x. None; cells = [] } → About 0 st file.main.body.stmts
+  pub begins : (st : Store) → st ≡ record { named = λ x. None; cells = [] } → About 0 st (stmts_of file.main.body)
   unfolding Steps
-  begins st same = let P : Store → Type 0 = λ u. About 0 u file.main.body.stmts in subst P (sym same) (record {
+  begins st same = let P : Store → Type 0 = λ u. About 0 u (stmts_of file.main.body) in subst P (sym same) (record {
     state = start_of file budget;
     xs = [];
     ws = [];
@@ -179,8 +182,9 @@ module _ (file : Source1) (budget : ℕ) where
     none_left : (k : StmtKind) (vs : List Val) (xs : Names) (m : Mem) → step_of [] 0 0 m (Leaf 0 (closed vs (stmt_code k xs next))) ≡ Longer
     none_left (s.Read y r t i h p) vs xs m = refl
     none_left (s.Write t u i p) vs xs m = refl
-    none_left (s.Alloc y t) vs xs m = refl
+    none_left (s.Alloc y (t ∷ [])) vs xs m = refl
     none_left (s.Free t i p) vs xs m = refl
+    none_left _ vs xs m = refl
 
     pub spent_at : steps ≡ budget → RunEnds file budget (Spent 0) steps
     spent_at all =
@@ -189,9 +193,9 @@ module _ (file : Source1) (budget : ℕ) where
         let f : step_in here.state 0 ≡ Longer = step_is 0 none ∙ none_left x.kind (map is here.ws) here.xs here.state.mem in
         ended steps here.state (Spent 0) here.steps_so here.left (lowest here.state Longer f (λ z. cc), f)
 
-  pub finished : (steps : ℕ) (st : Store) → About steps st [] → RunEnds file budget (end_said (evaluated st.named (returned file.main.body.end.kind))) steps
+  pub finished : (steps : ℕ) (st : Store) → About steps st [] → RunEnds file budget (end_said (evaluated st.named (returned (end_of file.main.body)))) steps
   finished steps st here =
-      ended steps here.state _ here.steps_so here.left (finish file.main.body.end.kind here.xs here.ws st here.state here.stands here.tree)
+      ended steps here.state _ here.steps_so here.left (finish (end_of file.main.body) here.xs here.ws st here.state here.stands here.tree)
 
   -- the statement at hand, and those after it
   pub now_at : (steps : ℕ) (st : Store) (xs ys : List Stmt) (i : ℕ) (x : Stmt) → ys ≡ xs → i < length ys → x ≡ get_or ys i x → About steps st (drop i xs) → About steps st (x ∷ drop (i + 1) xs)

@@ -1,6 +1,3 @@
-pub mod Lexing
-pub mod Chains
-pub mod WholeTexts
 pub mod Naming
 pub mod Cells
 pub mod Evaluating

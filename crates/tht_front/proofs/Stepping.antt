@@ -1,7 +1,7 @@
 -- What the runner does with a statement is the machine's step.
 use Rattle.std.proofs.Common.{◌≡◌, ℕ, suc, ◌+◌, cond, ◌&&◌, Bool, true, false, List, [], ◌∷◌, ◌++◌, map, length, bytes_eq, Option, Some, None, option_map, unwrap_or, refl, sym, ◌∙◌, ap, if◌then◌else◌}
 use Rattle.tht_tree.specs.declared.plain.Place.{Place}
-use Rattle.tht_tree.specs.declared.plain.Place.TheVariants.{Cell}
+use Rattle.tht_tree.specs.declared.plain.Place.TheVariants.{Null, Cell}
 use Rattle.tht_tree.specs.declared.plain.Sort.{Sort}
 use Rattle.tht_tree.specs.declared.plain.Value.{Value}
 use Rattle.tht_tree.specs.declared.plain.Value.TheVariants as v
@@ -144,10 +144,11 @@ module _ (n : ℕ) (m : Mem) (next : Names → Code) where
         let U = trm xs u in
         two (fits no_env vs T) (fits no_env vs U) (evaluated st.named t) (evaluated st.named u) (value vs T) (value vs U) _ (Write (place_in (value vs T)) (value vs U)) _ (terms t).answer (terms u).answer
         (write_at (place_in (value vs T)) (value vs U) _ refl (found_at (place_in (value vs T))))
-    follows (s.Alloc x t) =
+    follows (s.Alloc x (t ∷ [])) =
         let T = trm xs t in
         one (fits no_env vs T) (evaluated st.named t) (value vs T) _ (Alloc (value vs T ∷ [])) _ (terms t).answer (alloc_at x (value vs T))
     follows (s.Free t i p) =
         let T = trm xs t in
         one (fits no_env vs T) (evaluated st.named t) (value vs T) _ (Free (place_in (value vs T))) _ (terms t).answer
         (free_at (place_in (value vs T)) _ refl (found_at (place_in (value vs T))))
+    follows _ = free_at Null None refl (found_at Null)

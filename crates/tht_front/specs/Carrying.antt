@@ -2,6 +2,7 @@
 use Rattle.std.specs.Prelude.{◌≡◌, Option, Some, None}
 use Rattle.tht_tree.specs.declared.plain.Value.{Value}
 use Rattle.tht_tree.specs.declared.term.Term.{Term}
+use Rattle.tht_tree.specs.declared.term.Term.TheVariants as term
 use Rattle.tht_tree.specs.declared.body.EndKind.{EndKind}
 use Rattle.tht_tree.specs.declared.body.EndKind.TheVariants.{Ret}
 use Rattle.tht_tree.specs.declared.run.End.{End}
@@ -21,9 +22,10 @@ Becomes what Went new = what ≡ went new
 Becomes what Big new = what ≡ too_big
 Becomes what Fault new = what ≡ fault
 
--- the term that an end returns
+-- the term that an end returns; one that is not built yet returns ()
 abbrev pub returned : EndKind → Term
 returned (Ret t g) = t
+returned _ = term.Unit
 
 -- how a run ends whose returned term has this value, if it fits
 abbrev pub end_said : Option Value → End

@@ -1,5 +1,5 @@
-pub mod Parsing
 pub mod Running
 pub mod Carrying
 pub mod Outcomes
 pub mod Decided
+pub mod Refusals

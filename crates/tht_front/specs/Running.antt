@@ -1,4 +1,5 @@
--- What the runner keeps and does, as functions of plain values.
+-- What the runner keeps and does, as functions of plain values. A term that is not built yet has the value (), and a statement
+-- that is not built yet is a fault: no accepted file has one.
 use Rattle.std.specs.Prelude.{ℕ, zero, ◌+◌, Bool, true, false, List, [], ◌∷◌, ◌++◌, length, slice_get, slice_set, Option, Some, None, unwrap_or, bytes_eq, if◌then◌else◌}
 use Rattle.std.specs.BTreeMap.{get_by_text, BTreeMap}
 use Rattle.std.specs.declared.string.String.{String}
@@ -35,6 +36,7 @@ evaluated_at named t.Unit = Some v.Unit
 evaluated_at named (t.Var x) = fitting (unwrap_or (named x) unit_value)
 evaluated_at named (t.Add a b) = both (λ x y. fitting (v.Nat (nat_in x + nat_in y))) a b
 evaluated_at named (t.Eq a b) = both (λ x y. Some (v.Bool (same_value x y))) a b
+evaluated_at named _ = Some v.Unit
 
 -- the value of a term, if it and each part of it fit
 abbrev pub evaluated : Named → Term → Option Value
@@ -103,5 +105,6 @@ after_free st t = on_value (evaluated st.named t) (λ a. on_cell (held st.cells 
 abbrev pub carried : StmtKind → Store → Carried
 carried (s.Read x sort t i h p) st = after_read st x sort t
 carried (s.Write t u i p) st = after_write st t u
-carried (s.Alloc x t) st = after_alloc st x t
+carried (s.Alloc x (t ∷ [])) st = after_alloc st x t
 carried (s.Free t i p) st = after_free st t
+carried _ st = fault

@@ -1,8 +1,7 @@
 // The top call.
 ghost use Rattle.std.specs.Prelude.{◌≡◌, ◌≢◌, ◌<◌, ◌⊎◌, length, List, ℕ, map, string_bytes, IsTrue, None, Some, IfSome, IfOk, IsErrOf};
 ghost use Rattle.std.specs.Io.KnownBytes.{Keeps};
-ghost use Rattle.tht_tree.specs.Spelling.{IsNoSource};
-ghost use Rattle.tht_tree.specs.CommandLine.{asked, Answers, EndsSo, FileAnswers, HasAnswered, HasInput, IsRefused, RunHasEnded, ends_a_run, input_limit};
+ghost use Rattle.tht_tree.specs.CommandLine.{asked, Answers, EndsSo, FileAnswers, HasAnswered, HasInput, IsRefused, RunHasEnded, TakesNone, ends_a_run, input_limit};
 ghost use Rattle.tht_ports.specs.Causes.{Rose};
 
 use crate::answer::{answer_to, line};
@@ -39,7 +38,8 @@ pub fn tht_alone<S: Source, T: Sink>(
     ensures words { result ≡ Status.Words → asked (map string_bytes words.now) ≡ None }
     ensures words_first { asked (map string_bytes words.now) ≡ None → result ≢ Status.ReadFault }
     ensures too_long { result ≡ Status.TooLong → IfSome (S.left source.old) (λ input. input_limit < length input) }
-    ensures text { result ≡ Status.Text → IfSome (S.left source.old) IsNoSource }
+    ensures text { (reader : Reader) → asked (map string_bytes words.now) ≡ Some (Command.Read reader) → result ≡ Status.Text →
+        IfSome (S.left source.old) (λ input. TakesNone input reader) }
     ensures rule { result ≡ Status.Rule → IfSome (S.left source.old) IsRefused }
     ensures spent { result ≡ Status.Spent → IfSome (S.left source.old) (EndsSo End.Spent) }
     ensures big { result ≡ Status.Big → IfSome (S.left source.old) (EndsSo End.Big) }
@@ -80,7 +80,8 @@ fn answer_from<S: Source>(
     ensures words_first { asked (map string_bytes words.now) ≡ None → ¬ IsErrOf result NoAnswer.ReadFault }
     ensures too_long { IfOk result (λ answer. answer.status ≡ Status.TooLong →
         IfSome (S.left source.old) (λ input. input_limit < length input)) }
-    ensures text { IfOk result (λ answer. answer.status ≡ Status.Text → IfSome (S.left source.old) IsNoSource) }
+    ensures text { IfOk result (λ answer. (reader : Reader) → asked (map string_bytes words.now) ≡ Some (Command.Read reader) →
+        answer.status ≡ Status.Text → IfSome (S.left source.old) (λ input. TakesNone input reader)) }
     ensures rule { IfOk result (λ answer. answer.status ≡ Status.Rule → IfSome (S.left source.old) IsRefused) }
     ensures spent { IfOk result (λ answer. answer.status ≡ Status.Spent → IfSome (S.left source.old) (EndsSo End.Spent)) }
     ensures big { IfOk result (λ answer. answer.status ≡ Status.Big → IfSome (S.left source.old) (EndsSo End.Big)) }
@@ -104,7 +105,6 @@ fn answer_from_file<S: Source>(
     ensures no_words { IfOk result (λ answer. answer.status ≢ Status.Words) }
     ensures too_long { IfOk result (λ answer. answer.status ≡ Status.TooLong →
         IfSome (S.left source.old) (λ input. input_limit < length input)) }
-    ensures text { IfOk result (λ answer. answer.status ≡ Status.Text → IfSome (S.left source.old) IsNoSource) }
     ensures fault { IsErrOf result NoAnswer.ReadFault → Rose (S.faults source.old) (S.faults source.new) }
     ensures as_before { ¬ IsErrOf result NoAnswer.ReadFault → S.faults source.new ≡ S.faults source.old }
 {

@@ -3,21 +3,26 @@ ghost use Rattle.std.specs.Prelude.{◌≡◌, ◌≤◌, length, true, IfOk, Is
 ghost use Rattle.tht_tree.specs.CommandLine.{Accepts, FileAnswers, budget, status_of as status_said};
 ghost use Rattle.tht_tree.specs.Rules.Files.{IsAccepted};
 ghost use Rattle.tht_tree.specs.Rules.Scoping.{is_well_sorted};
+ghost use Rattle.tht_tree.specs.Layout.{layout};
+ghost use Rattle.tht_front.specs.Refusals.{fault_in, AnswersTo, IsLineOf};
 ghost use Rattle.tht_front.specs.Decided.{is_decided, is_past_text};
 ghost use Rattle.tht_front.specs.Outcomes.{RunEnds};
 
 use crate::course::Course;
 use crate::decided::Answer;
-use crate::parse::{ParseEnd, parse};
 use crate::report::{Ran, report};
 use crate::run::run;
 use hoare_rules::{Refusal, WalkEnd, body_holds, well_sorted};
 use std::alloc::{AllocError, Global};
+use tht_parse::{ParseEnd, parse};
+use tht_print::print;
 use tht_tree::command::Reader;
 use tht_tree::file::{Main, Source1};
+use tht_tree::plain::Spot;
 use tht_tree::run::End;
 use tht_tree::state::{Post, State};
 use tht_tree::status::Status;
+use tht_tree::text_fault::TextFault;
 
 // The budget of steps of a run.
 const BUDGET: u32 = 100_000;
@@ -37,26 +42,75 @@ pub fn answer_to(alloc: Global, reader: Reader, input: &[u8]) -> Result<Answer, 
     requires { length input.now ≤ 1048576 }
     ensures { IfOk result (λ answer. FileAnswers reader input.now answer.status answer.output.items) }
 {
-    let file = match parse(alloc, input) {
-        Ok(file) => file,
-        Err(ParseEnd::Text) => return line(alloc, Status::Text, b"text\n"),
-        Err(ParseEnd::Memory) => return Err(AllocError),
-    };
-    match well_sorted(alloc, &file) {
-        Ok(()) => sorted(alloc, reader, &file),
-        Err(WalkEnd::Refused) => line(alloc, Status::Text, b"text\n"),
-        Err(WalkEnd::Memory) => Err(AllocError),
+    match parse(alloc, input) {
+        Ok(file) => answer_to_file(alloc, reader, &file),
+        Err(end) => refused(alloc, end),
     }
 }
 
-// The answer of a command to the file that it has read, whose names and sorts are in order.
-fn sorted(alloc: Global, reader: Reader, file: &Source1) -> Result<Answer, AllocError>
-    requires { is_well_sorted file.now ≡ true }
-    ensures output { IfOk result (λ answer. Accepts reader file.now answer.status answer.output.items) }
-    ensures status { IfOk result (λ answer. IsTrue (is_past_text answer.status)) }
+// The answer to an input that spells no file.
+fn refused(alloc: Global, end: ParseEnd) -> Result<Answer, AllocError>
+    ensures status { IfOk result (λ answer. answer.status ≡ Status.Text) }
+    ensures output { IfOk result (λ answer. IsLineOf end answer.output.items) }
+{
+    let Some((fault, spot)) = fault_of(end) else {
+        return Err(AllocError);
+    };
+    let mut text = String::new(alloc);
+    let (line, column, word) = (spot.line, spot.column, fault.word());
+    writeln!(text, "text {line}:{column} {word}")?;
+    Ok(Answer {
+        status: Status::Text,
+        output: text.into_bytes(),
+    })
+}
+
+// The fault of a text and its place, unless memory ran out.
+fn fault_of(end: ParseEnd) -> Option<(TextFault, Spot)>
+    ensures { result ≡ fault_in end }
+{
+    match end {
+        ParseEnd::BadByte { spot } => Some((TextFault::Byte, spot)),
+        ParseEnd::LongName { spot } => Some((TextFault::LongName, spot)),
+        ParseEnd::BigNumber { spot } => Some((TextFault::BigNumber, spot)),
+        ParseEnd::Unexpected { spot, .. } => Some((TextFault::Unexpected, spot)),
+        ParseEnd::Deep { spot } => Some((TextFault::Deep, spot)),
+        ParseEnd::Many { spot } => Some((TextFault::Many, spot)),
+        ParseEnd::Version { spot } => Some((TextFault::Version, spot)),
+        ParseEnd::Memory => None,
+    }
+}
+
+// The answer of a command to a file that the input spells.
+fn answer_to_file(alloc: Global, reader: Reader, file: &Source1) -> Result<Answer, AllocError>
+    ensures { IfOk result (λ answer. AnswersTo reader file.now answer.status answer.output.items) }
 {
     match reader {
-        Reader::Run => checked(alloc, file),
+        Reader::Print => printed(alloc, file),
+        Reader::Run => sorted(alloc, file),
+    }
+}
+
+// The answer of `print`.
+fn printed(alloc: Global, file: &Source1) -> Result<Answer, AllocError>
+    ensures status { IfOk result (λ answer. answer.status ≡ Status.Done) }
+    ensures output { IfOk result (λ answer. answer.output.items ≡ layout file.now) }
+{
+    let output = print(alloc, file).map_err(|_| AllocError)?;
+    Ok(Answer {
+        status: Status::Done,
+        output,
+    })
+}
+
+// The answer of `run` to a file that may not be built yet.
+fn sorted(alloc: Global, file: &Source1) -> Result<Answer, AllocError>
+    ensures { IfOk result (λ answer. AnswersTo Reader.Run file.now answer.status answer.output.items) }
+{
+    match well_sorted(alloc, file) {
+        Ok(()) => checked(alloc, file),
+        Err(WalkEnd::Refused) => line(alloc, Status::Text, b"text later\n"),
+        Err(WalkEnd::Memory) => Err(AllocError),
     }
 }
 
@@ -67,7 +121,7 @@ fn checked(alloc: Global, file: &Source1) -> Result<Answer, AllocError>
     ensures status { IfOk result (λ answer. IsTrue (is_past_text answer.status)) }
 {
     let post = post_of(alloc, &file.main)?;
-    match body_holds(alloc, State::new(alloc), &file.main.body, &post) {
+    match body_holds(alloc, State::new(alloc), file.main.body.get(), &post) {
         Ok(()) => accepted(alloc, file),
         Err(Refusal::Rule) => line(alloc, Status::Rule, b"rule\n"),
         Err(Refusal::Memory) => Err(AllocError),

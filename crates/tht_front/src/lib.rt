@@ -6,7 +6,6 @@ mod answer;
 mod course;
 mod decided;
 mod laws;
-mod parse;
 mod report;
 mod run;
 mod runner;

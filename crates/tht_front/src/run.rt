@@ -9,13 +9,14 @@ use crate::runner::{Outcome, Runner};
 use std::alloc::{AllocError, Global};
 use tht_tree::body::EndKind;
 use tht_tree::file::Source1;
+use tht_tree::plain::Value;
 use tht_tree::run::End;
 
 /// Carries out main's statements one after the other, at most so many of them, and then its end.
 pub fn run(alloc: Global, file: &Source1, budget: u32) -> Result<Course, AllocError>
     ensures { IfOk result (Shows file.now budget) }
 {
-    let body = &file.main.body;
+    let body = file.main.body.get();
     let mut runner = Runner::new(alloc);
     let mut steps = 0;
     for stmt in body.stmts.as_slice() {
@@ -43,9 +44,10 @@ fn end_of(runner: &Runner, kind: &EndKind) -> End
     ensures { result ≡ end_said (evaluated (store_of runner.now).named (returned kind.now)) }
 {
     match kind {
-        EndKind::Ret(term, _) => match runner.value(term) {
+        EndKind::Ret(term, _) => match runner.value(term.get()) {
             Some(value) => End::Done(value),
             None => End::Big(0),
         },
+        _ => End::Done(Value::Unit),
     }
 }

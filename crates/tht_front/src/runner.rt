@@ -45,15 +45,19 @@ impl Runner {
         evaluate(term, &self.names)
     }
 
-    /// Carries out a statement, whatever is left of the budget.
+    /// Carries out a statement, whatever is left of the budget. One that is not built yet is a fault.
     pub fn carry_out(&mut self, kind: &StmtKind) -> Result<Outcome, AllocError>
         ensures { IfOk result (λ outcome. Becomes (carried kind.now (store_of self.old)) outcome (store_of self.new)) }
     {
         match kind {
-            StmtKind::Read(x, sort, place, _, _, _) => self.read(x, *sort, place),
-            StmtKind::Write(place, value, _, _) => Ok(self.write(place, value)),
-            StmtKind::Alloc(x, value) => self.alloc(x, value),
-            StmtKind::Free(place, _, _) => Ok(self.free(place)),
+            StmtKind::Read(x, sort, place, _, _, _) => self.read(x, *sort, place.get()),
+            StmtKind::Write(place, value, _, _) => Ok(self.write(place.get(), value.get())),
+            StmtKind::Alloc(x, cells) => match cells.as_slice() {
+                [value] => self.alloc(x, value),
+                _ => Ok(Outcome::Fault),
+            },
+            StmtKind::Free(place, _, _) => Ok(self.free(place.get())),
+            _ => Ok(Outcome::Fault),
         }
     }
 

@@ -49,7 +49,7 @@ fn no_memory<E: Drop>(_: E) -> AllocError {
 fn each_source_has_its_status_and_output(rt: HostRuntime) -> Result<(), Fail> {
     let alloc = rt.alloc();
     let words = words_of(alloc, &["run", "--workers", "1"])?;
-    let cases: [(&[u8], Status, &[u8]); 7] = [
+    let cases: [(&[u8], Status, &[u8]); 13] = [
         (
             FIRST,
             Status::Done,
@@ -69,18 +69,58 @@ fn each_source_has_its_status_and_output(rt: HostRuntime) -> Result<(), Fail> {
         (
             b"tht 1\nmain r : nat { [r = 7] } { ret 7 by [calc] }\n",
             Status::Text,
-            b"text\n",
+            b"text later\n",
         ),
         (
             b"tht 1 main r : nat { emp } { ret x by emp }",
             Status::Text,
-            b"text\n",
+            b"text later\n",
         ),
+        (b"", Status::Text, b"text 1:1 unexpected\n"),
+        (
+            b"tht 1\ninvariant\n",
+            Status::Text,
+            b"text 3:1 unexpected\n",
+        ),
+        (b"tht 1\ninvariant", Status::Text, b"text 2:10 unexpected\n"),
+        (
+            b"tht 1\nmain r : nat { emp } { ret 18446744073709551616 by emp }\n",
+            Status::Text,
+            b"text 2:28 bignumber\n",
+        ),
+        (b"tht 2\n%", Status::Text, b"text 2:1 byte\n"),
+        (b"tht 2\n", Status::Text, b"text 1:5 version\n"),
         (
             b"tht 1 # a comment\nmain r : unit { emp } { ret () by emp }",
             Status::Done,
             b"end done\nresult ()\nevents 0\ncost 0\naborts 0\norder\n",
         ),
+    ];
+    for (text, status, output) in cases {
+        let mut source = MemSource::new(text.to_vec(alloc)?, Vec::new(alloc));
+        let mut sink = MemSink::new(alloc, 100, Vec::new(alloc)).map_err(no_memory)?;
+        assert_eq!(rt; tht_alone(alloc, &words, &mut source, &mut sink), status);
+        assert_eq!(rt; sink.bytes(), output);
+    }
+    Ok(())
+}
+
+#[test]
+fn a_file_is_printed_in_its_layout(rt: HostRuntime) -> Result<(), Fail> {
+    let alloc = rt.alloc();
+    let words = words_of(alloc, &["print"])?;
+    let cases: [(&[u8], Status, &[u8]); 3] = [
+        (
+            b"tht 1 main r:nat{[r=7]}{ret 7 by[calc]}",
+            Status::Done,
+            b"tht 1\nmain r : nat { [ r = 7 ] } { ret 7 by [ calc ] }\n",
+        ),
+        (
+            b"tht 1\nmain r : nat { [r = x] } { ret ((y)) by emp }",
+            Status::Done,
+            b"tht 1\nmain r : nat { [ r = x ] } { ret y by emp }\n",
+        ),
+        (b"tht 1\nmain r", Status::Text, b"text 2:7 unexpected\n"),
     ];
     for (text, status, output) in cases {
         let mut source = MemSource::new(text.to_vec(alloc)?, Vec::new(alloc));

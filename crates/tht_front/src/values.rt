@@ -11,7 +11,7 @@ use tht_tree::term::Term;
 const NUMBER_LIMIT: u128 = 0x1_0000_0000_0000_0000;
 
 /// The value of a term, where the names have these values and every other name counts as `()`. There is none where the
-/// term or a part of it does not fit the machine.
+/// term or a part of it does not fit the machine. A term that is not built yet counts as `()`.
 pub fn evaluate(term: &Term, names: &BTreeMap<String, Value>) -> Option<Value>
     ensures { result ≡ evaluated (values_in names.now) term.now }
 {
@@ -29,6 +29,7 @@ pub fn evaluate(term: &Term, names: &BTreeMap<String, Value>) -> Option<Value>
             let right = evaluate(b.get(), names)?;
             Some(Value::Bool(same_value(left, right)))
         }
+        _ => Some(Value::Unit),
     }
 }
 

@@ -9,6 +9,7 @@ pub fn read_words(words: &[String]) -> Option<Command>
     ensures { result ≡ asked (map string_bytes words.now) }
 {
     match words {
+        [command] if command.as_str() == "print" => Some(Command::Read(Reader::Print)),
         [command, option, workers]
             if command.as_str() == "run"
                 && option.as_str() == "--workers"

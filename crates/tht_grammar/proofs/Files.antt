@@ -1,142 +1,91 @@
--- The readers of main commands and files against the grammar.
-use Rattle.std.proofs.Common.{◌≡◌, ℕ, subst, sym, refl, arith, Bool, true, false, ◌==◌, List, [], ◌∷◌, Some, None}
+-- What the readers of a version, of main and of a file read.
+use Rattle.std.proofs.Common.{◌≡◌, ℕ, ◌==◌, not, refl, arith, Bool, true, false, inl, inr, List, [], ◌∷◌, Option, Some}
 use Rattle.std.proofs.lemmas.Bool.Decides.{nat_tests}
-use Rattle.tht_tree.specs.declared.plain.Spot.{Spot}
-use Rattle.tht_tree.specs.declared.plain.Sort.{Sort}
 use Rattle.tht_tree.specs.declared.token.TokenKind.{TokenKind}
 use Rattle.tht_tree.specs.declared.token.TokenKind.TheVariants as k
-use Rattle.tht_tree.specs.declared.assn.Assn.{Assn}
-use Rattle.tht_tree.specs.declared.body.Body.{Body}
-use Rattle.tht_tree.specs.declared.file.Main.{Main}
-use Rattle.tht_tree.specs.declared.file.Source1.{Source1}
-use Rattle.tht_tree.specs.Tokens.{version, Mark, counts, counts_at, Info, Tok, tok}
+use Rattle.tht_tree.specs.Tokens.{version, counts_at, Info, Tok, tok, first_kind}
+use Rattle.tht_tree.specs.Productions.{Rel}
 use Rattle.tht_tree.specs.Grammar as g
-use Rattle.tht_tree.specs.Grammar.{Within, OpenAssn, SpellsBody, SpellsMain, SpellsFile}
-use Rattle.tht_grammar.specs.Steps.{is, rest, first_spot, first_value}
+use Rattle.tht_tree.specs.Grammar.{Nested, Tree, a_body}
+use Rattle.tht_tree.specs.Faults.{over}
+use Rattle.tht_grammar.specs.Steps.{Reader, same_kind, rest, first_value}
+use Rattle.tht_grammar.specs.Words.{begins_decl}
 use Rattle.tht_grammar.specs.Reading as r
-use Rattle.tht_grammar.proofs.Exact.{Rel, AllCount, Says, Comes, Exact, anywhere, Then, exact_by, Nothing, nothing, by_nothing}
-use Rattle.tht_grammar.proofs.Parts.{same_is, same_self, Takes, taken, exact_after, exact_next, exact_before, exact_map, Spotted, exact_spotted, IsName, is_name, exact_name, IsSort, is_sort, exact_sort}
-use Rattle.tht_grammar.proofs.Terms.{within_any}
-use Rattle.tht_grammar.proofs.Inner.{exact_inner_assn}
-use Rattle.tht_grammar.proofs.Stmts.{exact_body}
+use Rattle.tht_grammar.proofs.Beginnings.{BeginsWith, word_begins, part_begins, spotted_begins}
+use Rattle.tht_grammar.proofs.Exact.{Sound, Sample, blank, Reaches, Exact, anywhere, exact_part, sound_refuse, sound_exceed}
+use Rattle.tht_grammar.proofs.Sequences.{sound_one, exact_word, exact_then, exact_map}
+use Rattle.tht_grammar.proofs.Choices.{exact_spotted}
+use Rattle.tht_grammar.proofs.Chains.{not_true}
+use Rattle.tht_grammar.proofs.Constructs.{Constructs}
+use Rattle.tht_grammar.proofs.Assns.{box_exact}
+use Rattle.tht_grammar.proofs.Forms.{exact_param}
+use Rattle.tht_grammar.proofs.Roots.{decls_exact}
 
--- ---- main
+abbrev is_main : Option TokenKind → Bool
+is_main (Some k.Main) = true
+is_main _ = false
 
-abbrev OpenBody : Rel Body
-OpenBody i y j = Within 1 i × SpellsBody 1 i y j
+main_stops : (o : Option TokenKind) → is_main o ≡ true → not (begins_decl o) ≡ true
+main_stops (Some k.Main) h = refl
+main_stops _ h = cc
 
-open_body : Exact OpenBody anywhere (r.body 99)
-open_body = exact_by (SpellsBody 1) OpenBody (λ i j x h. (within_any 1 (omega arith) i, h)) (λ i j x h. h.1) (exact_body 1 99 refl)
+one_is : (n : ℕ) → (n == 1) ≡ true → n ≡ 1
+one_is n h = grind (arith, nat_tests)
 
-abbrev Mains : Spot → Rel Main
-Mains spot = Then (Takes k.Main) (λ _. Then IsName (λ x. Then (Takes k.Colon) (λ _. Then IsSort (λ z. Then (Takes k.LBrace) (λ _. Then (OpenAssn 0) (λ post.
-    Then (Takes k.RBrace) (λ _. Then OpenBody (λ y. Nothing (record { spot = spot; result = x; sort = z; post = post; body = y })))))))))
-
-main_parts : {i i2 i3 i4 i5 i6 i7 i8 j : List Tok} {u u2 u3 u4 : Unit {0}} {x : List ℕ} {z : Sort} {post : Assn} {y : Body}
-    → Takes k.Main i u i2 → IsName i2 x i3 → Takes k.Colon i3 u2 i4 → IsSort i4 z i5 → Takes k.LBrace i5 u3 i6 → OpenAssn 0 i6 post i7 → Takes k.RBrace i7 u4 i8 → OpenBody i8 y j
-    → SpellsMain i (record { spot = first_spot i; result = x; sort = z; post = post; body = y }) j
-unfolding first_spot
-main_parts taken is_name taken (is_sort e) taken a taken (w, b) = g.a_main e a w b
-
-main_in : {i j : List Tok} {y : Main} → Mains (first_spot i) i y j → SpellsMain i y j
-main_in {i = i} (u, i2, t1, (x, i3, n, (u2, i4, t2, (z, i5, s, (u3, i6, t3, (post, i7, a, (u4, i8, t4, (y, i9, b, c)))))))) =
-    by_nothing (λ y j. SpellsMain i y j) c (main_parts t1 n t2 s t3 a t4 b)
-
-main_out : {i j : List Tok} {y : Main} → SpellsMain i y j → Spotted Mains i y j
-unfolding first_spot
-main_out (g.a_main {i = i} {j = j} {r = o} {x = x} {y = y} {q = q} {z = z} {w1 = w1} {w2 = w2} {w3 = w3} {w4 = w4} {w5 = w5} e a w b) = (
-  tt,
-  tok k.Name w1 ∷ tok k.Colon w2 ∷ tok q w3 ∷ tok k.LBrace w4 ∷ i,
-  taken,
-  (
-    w1.text,
-    tok k.Colon w2 ∷ tok q w3 ∷ tok k.LBrace w4 ∷ i,
-    is_name,
-    (
-      tt,
-      tok q w3 ∷ tok k.LBrace w4 ∷ i,
-      taken,
-      (z, tok k.LBrace w4 ∷ i, is_sort e, (tt, i, taken, (x, tok k.RBrace w5 ∷ j, a, (tt, j, taken, (y, o, (w, b), nothing))))),
-    ),
-  ),
-)
-
-exact_main : Exact SpellsMain anywhere r.main
-unfolding r.main
-exact_main = exact_by (Spotted Mains) SpellsMain (λ i j y h. main_in h) (λ i j y h. main_out h) (exact_spotted Mains (λ spot. exact_after k.Main (exact_next IsName _ exact_name (λ x. exact_after k.Colon (
-    exact_next IsSort _ exact_sort (λ z. exact_after k.LBrace (exact_before (OpenAssn 0) k.RBrace _ refl (exact_inner_assn 100 0 refl) (λ post. exact_after k.RBrace (
-    exact_map OpenBody (λ y. record { spot = spot; result = x; sort = z; post = post; body = y }) open_body)))))))))
+one_not : (n : ℕ) → (n == 1) ≡ false → n ≡ 1 → ⊥
+one_not n h e = grind (arith, nat_tests)
 
 -- ---- the version
 
-data IsVersion : List Tok → ℕ → List Tok → Type 0 where
-  is_version : {w : Info} {j : List Tok} → (counts_at w.mark version ≡ true → w.value ≡ 1) → IsVersion (tok k.Num w ∷ j) w.value j
+module _ (readers : (n : Nested) → Reader (Tree n)) where
+  version_sample : Sample g.version_number
+  version_sample = record {
+    more = tok k.Num blank ∷ [];
+    value = 0;
+    blanks =
+        (refl, tt);
+    begins = λ l n. refl;
+    spells = λ l n. g.a_version {w = blank} (λ counts. cc);
+  }
 
-one_of : (n : ℕ) → (n == 1) ≡ true → n ≡ 1
-one_of n e = grind (arith, nat_tests)
+  version_by : (w : Info) (i : List Tok) (b : Bool) → (w.value == 1) ≡ b
+      → Sound g.version_number (tok k.Num w ∷ i) (r.version_by readers w.value b (tok k.Num w ∷ i))
+  unfolding rest
+  version_by w i true h = sound_one (tok k.Num w) i w.value (λ l. g.a_version (λ counts. one_is w.value h))
+  version_by w i false h = sound_exceed version (tok k.Num w) i [] w.value tt (λ l n. g.a_version (λ counts. cc))
 
-one_is : (n : ℕ) → n ≡ 1 → (n == 1) ≡ true
-one_is n e = grind (arith, nat_tests)
+  version_sound : (i : List Tok) → Sound g.version_number i (r.version_number readers i)
+  unfolding r.version_number same_kind first_value
+  version_sound (tok k.Num w ∷ i) = version_by w i (w.value == 1) refl
+  version_sound i = sound_refuse i version_sample
 
-value_says : (w : Info) (i : List Tok) (b : Bool) → (w.value == 1) ≡ b → Says IsVersion (tok k.Num w ∷ i) (r.version_by w.value b (tok k.Num w ∷ i))
-unfolding rest
-value_says w i true h = is_version (λ yes. one_of w.value h)
-value_says w i false h = tt
+  version_at : (w : Info) (i : List Tok) (b : Bool) → (w.value == 1) ≡ b → (counts_at w.mark version ≡ true → w.value ≡ 1)
+      → Reaches w.value i (r.version_by readers w.value b (tok k.Num w ∷ i))
+  unfolding rest
+  version_at w i true h one = inl refl
+  version_at w i false h one = inr ((over version, tok k.Num w ∷ i), refl, not_true _ (λ counts. one_not w.value h (one counts)))
 
-version_at : (q : TokenKind) (w : Info) (i : List Tok) (b : Bool) → is k.Num (Some q) ≡ b → Says IsVersion (tok q w ∷ i) (r.version (tok q w ∷ i))
-unfolding r.version first_value
-version_at q w i true h = let P : TokenKind → Type 0 = λ q. Says IsVersion (tok q w ∷ i) (r.version (tok q w ∷ i)) in
-    subst P (sym (same_is q k.Num h)) (rw (same_self k.Num) (value_says w i (w.value == 1) refl))
-version_at q w i false h = rw h tt
+  version_reaches : (i j : List Tok) (x : ℕ) → g.version_number i x j → Reaches x j (r.version_number readers i)
+  unfolding r.version_number same_kind first_value
+  version_reaches i j x (g.a_version {w = w} {i = l} one) = version_at w l (w.value == 1) refl one
 
-version_says : (i : List Tok) → Says IsVersion i (r.version i)
-unfolding r.version
-version_says [] = tt
-version_says (tok q w ∷ i) = version_at q w i (is k.Num (Some q)) refl
+  version_exact : Exact g.version_number g.version_number anywhere (r.version_number readers)
+  version_exact = record { sound = version_sound; complete = λ i j x h stop. version_reaches i j x h; sample = version_sample }
 
-counted : (m : Mark) (n : ℕ) → m ≡ counts → (counts_at m version ≡ true → n ≡ 1) → n ≡ 1
-counted m n e one = let P : Mark → Type 0 = λ m. counts_at m version ≡ true → n ≡ 1 in subst P e one refl
+-- ---- main and the file
 
-version_comes : {i j : List Tok} {n : ℕ} → AllCount i → IsVersion i n j → Comes i n j (r.version i)
-unfolding r.version first_value rest
-version_comes all (is_version {w = w} {j = j} one) =
-    record { found = rw (same_self k.Num, one_is w.value (counted w.mark w.value all.0 one)) refl; counting = all.1; fewer = omega arith }
+module _ {inner inner' : (n : Nested) → Rel (Tree n)} {readers : (n : Nested) → Reader (Tree n)} (e : Constructs inner inner' readers) where
+  main_begins : (rel : (n : Nested) → Rel (Tree n)) → BeginsWith is_main (g.main rel)
+  main_begins rel = spotted_begins (λ spot. word_begins refl)
 
-exact_version : Exact IsVersion anywhere r.version
-exact_version = record { says = version_says; complete = λ i j x all h stop. version_comes all h }
+  main_exact : Exact (g.main inner) (g.main inner') anywhere (r.main readers)
+  unfolding r.main
+  main_exact = exact_spotted {first = is_main} refl (λ spot. word_begins refl) (λ spot. exact_word refl (exact_param
+      (λ x. exact_then (box_exact e) (λ post.
+      exact_map (λ y. record { spot = spot; result = x.name; sort = x.sort; post = post; body = y }) (e.exact a_body)))))
 
--- ---- files
-
-abbrev FileParts : Rel Source1
-FileParts = Then (Takes k.Tht) (λ _. Then IsVersion (λ v. Then SpellsMain (λ x. Nothing (record { version = v; main = x }))))
-
-file_parts : {i l m j : List Tok} {u : Unit {0}} {v : ℕ} {x : Main} → Takes k.Tht i u l → IsVersion l v m → SpellsMain m x j → SpellsFile i (record { version = v; main = x }) j
-file_parts taken (is_version one) h = g.a_file one h
-
-file_in : {i j : List Tok} {y : Source1} → FileParts i y j → SpellsFile i y j
-file_in {i = i} (u, l, t, (v, m, n, (x, o, h, c))) = by_nothing (λ y j. SpellsFile i y j) c (file_parts t n h)
-
-file_out : {i j : List Tok} {y : Source1} → SpellsFile i y j → FileParts i y j
-file_out (g.a_file {i = i} {r = o} {x = x} {w = w} one h) = (tt, tok k.Num w ∷ i, taken, (w.value, i, is_version one, (x, o, h, nothing)))
-
-pub exact_file : Exact SpellsFile anywhere r.file
-unfolding r.file
-exact_file = exact_by FileParts SpellsFile (λ i j y h. file_in h) (λ i j y h. file_out h)
-    (exact_after k.Tht (exact_next IsVersion _ exact_version (λ v. exact_map SpellsMain (λ x. record { version = v; main = x }) exact_main)))
-
--- ---- whole texts
-
--- what is read is spelled by all of the tokens
-pub whole_says : (i : List Tok) (x : Source1) → r.whole i ≡ Some x → SpellsFile i x []
-unfolding r.whole
-whole_says i x h = go (r.file i) (exact_file.says i) h
-  where
-    go : (o : _) → Says SpellsFile i o → r.finish o ≡ Some x → SpellsFile i x []
-    go None s e = cc
-    go (Some (y, [])) s e = let same : y ≡ x = cc in let P : Source1 → Type 0 = λ y. SpellsFile i y [] in subst P same s
-    go (Some (y, (t ∷ ts))) s e = cc
-
--- what all of the tokens spell is read
-pub whole_complete : (i : List Tok) (x : Source1) → AllCount i → SpellsFile i x [] → r.whole i ≡ Some x
-unfolding r.whole
-whole_complete i x all h = let c = exact_file.complete i [] x all h refl in rw c.found refl
+  pub file_exact : Exact (g.file inner) (g.file inner') anywhere (r.file readers)
+  unfolding r.file
+  file_exact = exact_word refl (exact_then (version_exact readers) (λ n. exact_part (decls_exact e)
+      (λ ds. exact_map (λ x. record { version = n; decls = ds; main = x }) main_exact)
+      (λ i j l x y h s stop. main_stops (first_kind j) ((part_begins (main_begins inner')).known j l y s))))

@@ -1,290 +1,313 @@
--- The readers of statements and bodies against the grammar.
-use Rattle.std.proofs.Common.{◌≡◌, ℕ, suc, ◌+◌, ◌≤◌, refl, arith, true, not, ◌&&◌, List, [], ◌∷◌, length}
-use Rattle.tht_tree.specs.declared.plain.Spot.{Spot}
+-- What the readers of statements read.
+use Rattle.std.proofs.Common.{◌≡◌, ℕ, ◌&&◌, not, refl, arith, true, List, ◌∷◌, Option, Some}
 use Rattle.tht_tree.specs.declared.plain.Sort.{Sort}
+use Rattle.tht_tree.specs.declared.token.TokenKind.{TokenKind}
 use Rattle.tht_tree.specs.declared.token.TokenKind.TheVariants as k
 use Rattle.tht_tree.specs.declared.term.Term.{Term}
 use Rattle.tht_tree.specs.declared.proof.Proof.{Proof}
-use Rattle.tht_tree.specs.declared.give.Give.{Give}
-use Rattle.tht_tree.specs.declared.body.Body.{Body}
 use Rattle.tht_tree.specs.declared.body.Stmt.{Stmt}
-use Rattle.tht_tree.specs.declared.body.StmtKind.TheVariants as kinds
-use Rattle.tht_tree.specs.declared.body.End.{End}
-use Rattle.tht_tree.specs.declared.body.EndKind.TheVariants as lasts
-use Rattle.tht_tree.specs.Tokens.{Info, Tok, tok, first_kind}
+use Rattle.tht_tree.specs.declared.body.StmtKind.{StmtKind}
+use Rattle.tht_tree.specs.declared.body.StmtKind.TheVariants as c
+use Rattle.tht_tree.specs.Tokens.{Tok, tok, first_kind}
+use Rattle.tht_tree.specs.Productions.{Rel, Gives, gives, ◌▸◌, word, Named, named, Numbered, Sorted, sorted, Part, part, Spotted, spotted, Listed, Entries, Many}
 use Rattle.tht_tree.specs.Grammar as g
-use Rattle.tht_tree.specs.Grammar.{SpellsTerm, OpenTerm, OpenProof, OpenGive, SpellsStmt, SpellsStmts, SpellsEnd, SpellsBody}
-use Rattle.tht_grammar.specs.Steps.{look, rest, first_spot}
+use Rattle.tht_tree.specs.Grammar.{Nested, Tree, a_term, a_body, dots, StmtForm, stmt_read, stmt_write, stmt_alloc, stmt_free, stmt_publish, stmt_retract, stmt_call, stmt_do, stmt_atomic, stmt_par, stmt_step}
+use Rattle.tht_grammar.specs.Steps.{Reader, ◌>>◌, same_kind, look, rest, expect}
+use Rattle.tht_grammar.specs.Words.{begins_prim, begins_stmt}
 use Rattle.tht_grammar.specs.Reading as r
-use Rattle.tht_grammar.specs.Reading.{begins_stmt}
-use Rattle.tht_grammar.proofs.Exact.{Rel, AllCount, Says, Comes, Exact, anywhere, Then, says_from, exact_then, exact_by, Nothing, nothing, by_nothing}
-use Rattle.tht_grammar.proofs.Parts.{Takes, taken, exact_after, exact_before, exact_ended, exact_next, exact_map, Spotted, exact_spotted, IsName, is_name, exact_name, IsSort, is_sort, exact_sort, IsAtom, is_atom, exact_atom, exact_to_atom}
-use Rattle.tht_grammar.proofs.Loops.{Many, no_more, one_more, exact_many}
-use Rattle.tht_grammar.proofs.Terms.{exact_off, exact_inner_term}
-use Rattle.tht_grammar.proofs.Inner.{exact_inner_proof, exact_inner_give}
+use Rattle.tht_grammar.proofs.Local.{IsLocal}
+use Rattle.tht_grammar.proofs.LocalRules.{takes_ended}
+use Rattle.tht_grammar.proofs.Beginnings.{BeginsWith, begins_step, forms_begin, part_begins, spotted_begins, off_begins, step_form_begins, stmt_form_begins, ended_begins}
+use Rattle.tht_grammar.proofs.Exact.{Sound, Exact, anywhere, exact_by, exact_part, exact_pure, exact_less, sound_refuse}
+use Rattle.tht_grammar.proofs.Sequences.{exact_word, exact_named, exact_sorted, exact_then, exact_before, exact_until, exact_map}
+use Rattle.tht_grammar.proofs.Choices.{OneOf, sound_form, exact_spotted}
+use Rattle.tht_grammar.proofs.Lists.{exact_entries, exact_listed, exact_repeat}
+use Rattle.tht_grammar.proofs.Constructs.{Constructs, term_item, stops_off}
+use Rattle.tht_grammar.proofs.Terms.{off_exact, arguments_exact}
+use Rattle.tht_grammar.proofs.Forms.{exact_param, sample_form, exact_any, exact_forms, exact_by_proof, exact_by_give, exact_at, at_cell_exact, exact_block}
+use Rattle.tht_grammar.proofs.Steps.{at_semicolon, semicolon_star, step_kind_exact}
 
--- ---- the parts of each form
+-- ---- statements that begin with a name
 
--- where d constructs are open
-module _ (d : ℕ) where
-  -- "by" proof
-  abbrev pub ByProof : Rel Proof
-  ByProof = Then (Takes k.By) (λ _. OpenProof d)
+-- after NAME ":" sort "<-"
+data TypedForm : Type 0 where
+  typed_read : TypedForm
+  typed_do : TypedForm
+  typed_atomic : TypedForm
 
-  -- what follows NAME ":"
-  abbrev Reads : Spot → List ℕ → Rel Stmt
-  Reads spot x = Then IsSort (λ z. Then (Takes k.LeftArrow) (λ _. Then (Takes k.Read) (λ _. Then (OpenTerm d) (λ place. Then IsAtom (λ a. Then (Takes k.As) (λ _.
-      Then IsName (λ h. Then ByProof (λ p. Nothing (record { spot = spot; kind = kinds.Read x z place a h p })))))))))
+-- after NAME "<-"
+data MadeForm : Type 0 where
+  made_alloc : MadeForm
+  made_call : MadeForm
 
-  -- what follows NAME "<-"
-  abbrev Allocs : Spot → List ℕ → Rel Stmt
-  Allocs spot x = Then (Takes k.Alloc) (λ _. Then (Takes k.LParen) (λ _. Then (OpenTerm d) (λ value. Then (Takes k.RParen) (λ _.
-      Nothing (record { spot = spot; kind = kinds.Alloc x value })))))
+-- after NAME
+data BoundForm : Type 0 where
+  bound_typed : BoundForm
+  bound_made : BoundForm
 
-  -- what follows NAME
-  data Binds (spot : Spot) (x : List ℕ) : List Tok → Stmt → List Tok → Type 0 where
-    binds_read : {w : Info} {i j : List Tok} {y : Stmt} → Reads spot x i y j → Binds spot x (tok k.Colon w ∷ i) y j
-    binds_alloc : {w : Info} {i j : List Tok} {y : Stmt} → Allocs spot x i y j → Binds spot x (tok k.LeftArrow w ∷ i) y j
+module _ (rel : (n : Nested) → Rel (Tree n)) where
+  abbrev typed_form : List ℕ → Sort → TypedForm → Rel StmtKind
+  typed_form x z typed_read = k.Read ▸ Part (rel a_term) (λ y. k.At ▸ Numbered (λ m. k.As ▸ Named
+      (λ h. g.ByProof rel (λ q. Gives (c.Read x z y m h q)))))
+  typed_form x z typed_do = k.Do ▸ g.Block rel (λ is y post. Gives (c.Do x z is y post))
+  typed_form x z typed_atomic = k.Atomic ▸ g.Block rel (λ is y post. Gives (c.Atomic x z is y post))
 
-  abbrev Named : Spot → Rel Stmt
-  Named spot = Then IsName (λ x. Binds spot x)
+  abbrev made_form : List ℕ → MadeForm → Rel StmtKind
+  made_form x made_alloc = k.Alloc ▸ (k.LParen ▸ Part (Entries 8 (rel a_term) 0) (λ ts. k.RParen ▸ Gives (c.Alloc x ts)))
+  made_form x made_call = k.Call ▸ Named (λ f. Part (g.arguments rel) (λ ts. k.LBracket ▸ Part (Listed 64 (rel a_term)) (λ us. k.RBracket ▸
+      g.ByGive rel (λ y. Gives (c.Call x f ts us y)))))
 
-  abbrev Writes : Spot → Rel Stmt
-  Writes spot = Then (Takes k.Write) (λ _. Then (SpellsTerm d g.off) (λ place. Then (SpellsTerm d g.off) (λ value. Then IsAtom (λ a. Then ByProof (λ p.
-      Nothing (record { spot = spot; kind = kinds.Write place value a p }))))))
+  abbrev bound_form : List ℕ → BoundForm → Rel StmtKind
+  bound_form x bound_typed = k.Colon ▸ Sorted (λ z. k.LeftArrow ▸ OneOf (typed_form x z))
+  bound_form x bound_made = k.LeftArrow ▸ OneOf (made_form x)
 
-  abbrev Frees : Spot → Rel Stmt
-  Frees spot = Then (Takes k.Free) (λ _. Then (OpenTerm d) (λ place. Then IsAtom (λ a. Then ByProof (λ p. Nothing (record { spot = spot; kind = kinds.Free place a p })))))
+  abbrev Bound : Rel StmtKind
+  Bound = Named (λ x. OneOf (bound_form x))
 
-  -- ---- they are the productions
+  -- the forms, where those that begin with a name are read alike
+  abbrev grouped : StmtForm → Rel StmtKind
+  grouped stmt_read = Bound
+  grouped stmt_alloc = Bound
+  grouped stmt_call = Bound
+  grouped stmt_do = Bound
+  grouped stmt_atomic = Bound
+  grouped f = g.stmt_form rel f
 
-  read_in : {w w1 : Info} {i i2 i3 i4 i5 i6 i7 i8 j : List Tok} {u u2 u3 : Unit {0}} {z : Sort} {place : Term} {a : ℕ} {h : List ℕ} {p : Proof}
-      → IsSort i z i2 → Takes k.LeftArrow i2 u i3 → Takes k.Read i3 u2 i4 → OpenTerm d i4 place i5 → IsAtom i5 a i6 → Takes k.As i6 u3 i7 → IsName i7 h i8 → ByProof i8 p j
-      → SpellsStmt d (tok k.Name w ∷ tok k.Colon w1 ∷ i) (record { spot = w.spot; kind = kinds.Read w.text z place a h p }) j
-  read_in (is_sort e) taken taken t is_atom taken is_name (u, l, taken, b) = g.stmt_read e t b
+  bound_in : {i j : List Tok} {y : StmtKind} → Bound i y j → OneOf (g.stmt_form rel) i y j
+  bound_in (named (bound_typed, word (sorted e (word (typed_read, h))))) = (stmt_read, named (word (sorted e (word h))))
+  bound_in (named (bound_typed, word (sorted e (word (typed_do, h))))) = (stmt_do, named (word (sorted e (word h))))
+  bound_in (named (bound_typed, word (sorted e (word (typed_atomic, h))))) = (stmt_atomic, named (word (sorted e (word h))))
+  bound_in (named (bound_made, word (made_alloc, h))) = (stmt_alloc, named (word h))
+  bound_in (named (bound_made, word (made_call, h))) = (stmt_call, named (word h))
 
-  alloc_in : {w w1 : Info} {i i2 i3 i4 j : List Tok} {u u2 u3 : Unit {0}} {value : Term} → Takes k.Alloc i u i2 → Takes k.LParen i2 u2 i3 → OpenTerm d i3 value i4 → Takes k.RParen i4 u3 j
-      → SpellsStmt d (tok k.Name w ∷ tok k.LeftArrow w1 ∷ i) (record { spot = w.spot; kind = kinds.Alloc w.text value }) j
-  alloc_in taken taken t taken = g.stmt_alloc t
+  into : (f : StmtForm) (i j : List Tok) (y : StmtKind) → grouped f i y j → OneOf (g.stmt_form rel) i y j
+  into stmt_read i j y h = bound_in h
+  into stmt_alloc i j y h = bound_in h
+  into stmt_call i j y h = bound_in h
+  into stmt_do i j y h = bound_in h
+  into stmt_atomic i j y h = bound_in h
+  into f i j y h = (f, h)
 
-  binds_in : {w : Info} {i j : List Tok} {y : Stmt} → Binds w.spot w.text i y j → SpellsStmt d (tok k.Name w ∷ i) y j
-  binds_in {w = w} (binds_read {w = w1} {i = i} (z, i2, s, (u, i3, t1, (u2, i4, t2, (place, i5, t, (a, i6, n, (u3, i7, t3, (h, i8, m, (p, i9, b, c))))))))) =
-      by_nothing (λ y j. SpellsStmt d (tok k.Name w ∷ tok k.Colon w1 ∷ i) y j) c (read_in s t1 t2 t n t3 m b)
-  binds_in {w = w} (binds_alloc {w = w1} {i = i} (u, i2, t1, (u2, i3, t2, (value, i4, t, (u3, i5, t3, c))))) =
-      by_nothing (λ y j. SpellsStmt d (tok k.Name w ∷ tok k.LeftArrow w1 ∷ i) y j) c (alloc_in t1 t2 t t3)
+  out : (f : StmtForm) (i j : List Tok) (y : StmtKind) → g.stmt_form rel f i y j → grouped f i y j
+  out stmt_read i j y (named (word (sorted e (word h)))) = named (bound_typed, word (sorted e (word (typed_read, h))))
+  out stmt_do i j y (named (word (sorted e (word h)))) = named (bound_typed, word (sorted e (word (typed_do, h))))
+  out stmt_atomic i j y (named (word (sorted e (word h)))) = named (bound_typed, word (sorted e (word (typed_atomic, h))))
+  out stmt_alloc i j y (named (word h)) = named (bound_made, word (made_alloc, h))
+  out stmt_call i j y (named (word h)) = named (bound_made, word (made_call, h))
+  out f i j y h = h
 
-  named_in : {i l j : List Tok} {x : List ℕ} {y : Stmt} → IsName i x l → Binds (first_spot i) x l y j → SpellsStmt d i y j
-  unfolding first_spot
-  named_in is_name b = binds_in b
+-- no `.` begins a term
+prim_off : (o : Option TokenKind) → begins_prim o ≡ true → stops_off o ≡ true
+prim_off (Some k.Dot) h = cc
+prim_off _ h = refl
 
-  write_in : {i i2 i3 i4 i5 j : List Tok} {u : Unit {0}} {place value : Term} {a : ℕ} {p : Proof}
-      → Takes k.Write i u i2 → SpellsTerm d g.off i2 place i3 → SpellsTerm d g.off i3 value i4 → IsAtom i4 a i5 → ByProof i5 p j
-      → SpellsStmt d i (record { spot = first_spot i; kind = kinds.Write place value a p }) j
-  unfolding first_spot
-  write_in taken t v is_atom (u, l, taken, b) = g.stmt_write t v b
+module _ {inner inner' : (n : Nested) → Rel (Tree n)} {readers : (n : Nested) → Reader (Tree n)} (e : Constructs inner inner' readers) where
+  module _ (x : List ℕ) where
+    module _ (z : Sort) where
+      read_typed : TypedForm → Reader StmtKind
+      read_typed typed_read = expect k.Read >> r.read readers x z
+      read_typed typed_do = expect k.Do >> r.do_block readers x z
+      read_typed typed_atomic = expect k.Atomic >> r.atomic readers x z
 
-  writes_in : {i j : List Tok} {y : Stmt} → Writes (first_spot i) i y j → SpellsStmt d i y j
-  writes_in {i = i} (u, i2, t1, (place, i3, t, (value, i4, v, (a, i5, n, (p, i6, b, c))))) = by_nothing (λ y j. SpellsStmt d i y j) c (write_in t1 t v n b)
+      each_typed : (f : TypedForm) → Exact (typed_form inner x z f) (typed_form inner' x z f) anywhere (read_typed f)
+      unfolding read_typed r.read r.do_block r.atomic
+      each_typed typed_read = exact_word refl (exact_before refl (e.exact a_term) (λ y. exact_at e (λ m. exact_word refl (exact_named (λ h.
+          exact_by_proof e (λ q. exact_pure (c.Read x z y m h q)))))))
+      each_typed typed_do = exact_word refl (exact_block e (λ b. exact_pure (c.Do x z b.0 b.1.0 b.1.1)))
+      each_typed typed_atomic = exact_word refl (exact_block e (λ b. exact_pure (c.Atomic x z b.0 b.1.0 b.1.1)))
 
-  free_in : {i i2 i3 i4 j : List Tok} {u : Unit {0}} {place : Term} {a : ℕ} {p : Proof} → Takes k.Free i u i2 → OpenTerm d i2 place i3 → IsAtom i3 a i4 → ByProof i4 p j
-      → SpellsStmt d i (record { spot = first_spot i; kind = kinds.Free place a p }) j
-  unfolding first_spot
-  free_in taken t is_atom (u, l, taken, b) = g.stmt_free t b
+      by_typed : (f : TypedForm) (i : List Tok) → Sound (OneOf (typed_form inner x z)) i (read_typed f i)
+      by_typed f i = sound_form (typed_form inner x z) f i (read_typed f i) ((each_typed f).sound i)
 
-  frees_in : {i j : List Tok} {y : Stmt} → Frees (first_spot i) i y j → SpellsStmt d i y j
-  frees_in {i = i} (u, i2, t1, (place, i3, t, (a, i4, n, (p, i5, b, c)))) = by_nothing (λ y j. SpellsStmt d i y j) c (free_in t1 t n b)
+      typed_sound : (i : List Tok) → Sound (OneOf (typed_form inner x z)) i (r.typed_by readers x z (first_kind i) i)
+      unfolding read_typed expect same_kind rest
+      typed_sound (tok k.Read w ∷ i) = by_typed typed_read (tok k.Read w ∷ i)
+      typed_sound (tok k.Do w ∷ i) = by_typed typed_do (tok k.Do w ∷ i)
+      typed_sound (tok k.Atomic w ∷ i) = by_typed typed_atomic (tok k.Atomic w ∷ i)
+      typed_sound i = sound_refuse i (sample_form (typed_form inner x z) typed_do (each_typed typed_do).sample)
 
-  -- ---- they are read
+      same_typed : (f : TypedForm) (i j : List Tok) (y : StmtKind) → typed_form inner' x z f i y j → anywhere (first_kind j) ≡ true
+          → r.typed_by readers x z (first_kind i) i ≡ read_typed f i
+      unfolding read_typed expect same_kind rest
+      same_typed typed_read i j y (word h) stop = refl
+      same_typed typed_do i j y (word h) stop = refl
+      same_typed typed_atomic i j y (word h) stop = refl
 
-  module _ (n : ℕ) (room : d + n ≡ 100) where
-    by_exact : Exact ByProof anywhere (r.by_proof n)
-    unfolding r.by_proof
-    by_exact = exact_after k.By (exact_inner_proof n d room)
+      after_typed : Exact (OneOf (typed_form inner x z)) (OneOf (typed_form inner' x z)) anywhere (look (r.typed_by readers x z))
+      after_typed = exact_forms read_typed each_typed typed_do typed_sound same_typed
 
-    reads_exact : (spot : Spot) (x : List ℕ) → Exact (Reads spot x) anywhere (r.read n spot x)
-    unfolding r.read
-    reads_exact spot x = exact_next IsSort _ exact_sort (λ z. exact_after k.LeftArrow (exact_after k.Read (exact_to_atom (OpenTerm d) _ refl (exact_inner_term n d room) (λ place.
-        exact_next IsAtom _ exact_atom (λ a. exact_after k.As (exact_next IsName _ exact_name (λ h. exact_map ByProof (λ p. record { spot = spot; kind = kinds.Read x z place a h p }) by_exact)))))))
+    read_made : MadeForm → Reader StmtKind
+    read_made made_alloc = expect k.Alloc >> r.alloc readers x
+    read_made made_call = expect k.Call >> r.call readers x
 
-    allocs_exact : (spot : Spot) (x : List ℕ) → Exact (Allocs spot x) anywhere (r.alloc n spot x)
-    unfolding r.alloc
-    allocs_exact spot x = exact_after k.Alloc (exact_after k.LParen (exact_ended (OpenTerm d) k.RParen (λ value. record { spot = spot; kind = kinds.Alloc x value }) refl (exact_inner_term n d room)))
+    each_made : (f : MadeForm) → Exact (made_form inner x f) (made_form inner' x f) at_semicolon (read_made f)
+    unfolding read_made r.alloc r.call
+    each_made made_alloc = exact_any (exact_word refl (exact_word refl
+        (exact_until refl refl (exact_entries 8 (omega arith) refl (term_item e)) (λ ts. exact_pure (c.Alloc x ts)))))
+    each_made made_call = exact_less semicolon_star (exact_word refl (exact_named (λ f. exact_then (arguments_exact e) (λ ts.
+        exact_word refl (exact_until refl refl (exact_listed 64 (omega arith) refl (term_item e)) (λ us. exact_by_give e
+        (λ y. c.Call x f ts us y)))))))
 
-    binds_says : (spot : Spot) (x : List ℕ) (i : List Tok) → Says (Binds spot x) i (look (r.named_by n spot x) i)
-    unfolding rest
-    binds_says spot x [] = tt
-    binds_says spot x (tok k.Colon w ∷ i) = says_from (Reads spot x) (Binds spot x) i (tok k.Colon w ∷ i) (λ j y h. binds_read h) _ ((reads_exact spot x).says i)
-    binds_says spot x (tok k.LeftArrow w ∷ i) = says_from (Allocs spot x) (Binds spot x) i (tok k.LeftArrow w ∷ i) (λ j y h. binds_alloc h) _ ((allocs_exact spot x).says i)
-    binds_says spot x (tok q w ∷ i) = tt
+    by_made : (f : MadeForm) (i : List Tok) → Sound (OneOf (made_form inner x)) i (read_made f i)
+    by_made f i = sound_form (made_form inner x) f i (read_made f i) ((each_made f).sound i)
 
-    past : {t : Tok} {i j : List Tok} {y : Stmt} {o : _} → Comes i y j o → Comes (t ∷ i) y j o
-    past c = let fewer = c.fewer in record { found = c.found; counting = c.counting; fewer = omega arith }
+    made_sound : (i : List Tok) → Sound (OneOf (made_form inner x)) i (r.made_by readers x (first_kind i) i)
+    unfolding read_made expect same_kind rest
+    made_sound (tok k.Alloc w ∷ i) = by_made made_alloc (tok k.Alloc w ∷ i)
+    made_sound (tok k.Call w ∷ i) = by_made made_call (tok k.Call w ∷ i)
+    made_sound i = sound_refuse i (sample_form (made_form inner x) made_alloc (each_made made_alloc).sample)
 
-    binds_comes : {spot : Spot} {x : List ℕ} {i j : List Tok} {y : Stmt} → AllCount i → Binds spot x i y j → Comes i y j (look (r.named_by n spot x) i)
-    unfolding rest
-    binds_comes {spot = spot} {x = x} all (binds_read {i = i} {j = j} {y = y} h) = past ((reads_exact spot x).complete i j y all.1 h refl)
-    binds_comes {spot = spot} {x = x} all (binds_alloc {i = i} {j = j} {y = y} h) = past ((allocs_exact spot x).complete i j y all.1 h refl)
+    same_made : (f : MadeForm) (i j : List Tok) (y : StmtKind) → made_form inner' x f i y j → at_semicolon (first_kind j) ≡ true
+        → r.made_by readers x (first_kind i) i ≡ read_made f i
+    unfolding read_made expect same_kind rest
+    same_made made_alloc i j y (word h) stop = refl
+    same_made made_call i j y (word h) stop = refl
 
-    binds_exact : (spot : Spot) (x : List ℕ) → Exact (Binds spot x) anywhere (look (r.named_by n spot x))
-    binds_exact spot x = record { says = binds_says spot x; complete = λ i j y all h stop. binds_comes all h }
+    after_made : Exact (OneOf (made_form inner x)) (OneOf (made_form inner' x)) at_semicolon (look (r.made_by readers x))
+    after_made = exact_forms read_made each_made made_alloc made_sound same_made
 
-    named_exact : Exact (Spotted Named) anywhere (r.named n)
-    unfolding r.named
-    named_exact = exact_spotted Named (λ spot. exact_next IsName _ exact_name (λ x. binds_exact spot x))
+    read_bound : BoundForm → Reader StmtKind
+    read_bound bound_typed = expect k.Colon >> r.typed readers x
+    read_bound bound_made = expect k.LeftArrow >> look (r.made_by readers x)
 
-    writes_exact : Exact (Spotted Writes) anywhere (r.write n)
-    unfolding r.write
-    writes_exact = exact_spotted Writes (λ spot. exact_after k.Write (
-        exact_next (SpellsTerm d g.off) _ (exact_off d (r.inner_term n) (exact_inner_term n d room)) (λ place.
-        exact_next (SpellsTerm d g.off) _ (exact_off d (r.inner_term n) (exact_inner_term n d room)) (λ value. exact_next IsAtom _ exact_atom (λ a.
-        exact_map ByProof (λ p. record { spot = spot; kind = kinds.Write place value a p }) by_exact)))))
+    each_bound : (f : BoundForm) → Exact (bound_form inner x f) (bound_form inner' x f) at_semicolon (read_bound f)
+    unfolding read_bound r.typed
+    each_bound bound_typed = exact_any (exact_word refl (exact_sorted (λ z. exact_word refl (after_typed z))))
+    each_bound bound_made = exact_word refl after_made
 
-    frees_exact : Exact (Spotted Frees) anywhere (r.free n)
-    unfolding r.free
-    frees_exact = exact_spotted Frees (λ spot. exact_after k.Free (exact_to_atom (OpenTerm d) _ refl (exact_inner_term n d room) (λ place. exact_next IsAtom _ exact_atom (λ a.
-        exact_map ByProof (λ p. record { spot = spot; kind = kinds.Free place a p }) by_exact))))
+    by_bound : (f : BoundForm) (i : List Tok) → Sound (OneOf (bound_form inner x)) i (read_bound f i)
+    by_bound f i = sound_form (bound_form inner x) f i (read_bound f i) ((each_bound f).sound i)
 
-    stmt_says : (i : List Tok) → Says (SpellsStmt d) i (r.stmt n i)
-    unfolding r.stmt
-    stmt_says [] = tt
-    stmt_says (tok k.Name w ∷ i) = says_from (Spotted Named) (SpellsStmt d) (tok k.Name w ∷ i) (tok k.Name w ∷ i) (λ j y h. named_in h.2 h.3) _ (named_exact.says (tok k.Name w ∷ i))
-    stmt_says (tok k.Write w ∷ i) = says_from (Spotted Writes) (SpellsStmt d) (tok k.Write w ∷ i) (tok k.Write w ∷ i) (λ j y h. writes_in h) _ (writes_exact.says (tok k.Write w ∷ i))
-    stmt_says (tok k.Free w ∷ i) = says_from (Spotted Frees) (SpellsStmt d) (tok k.Free w ∷ i) (tok k.Free w ∷ i) (λ j y h. frees_in h) _ (frees_exact.says (tok k.Free w ∷ i))
-    stmt_says (tok q w ∷ i) = tt
+    bound_sound : (i : List Tok) → Sound (OneOf (bound_form inner x)) i (r.bound_by readers x (first_kind i) i)
+    unfolding read_bound expect same_kind rest
+    bound_sound (tok k.Colon w ∷ i) = by_bound bound_typed (tok k.Colon w ∷ i)
+    bound_sound (tok k.LeftArrow w ∷ i) = by_bound bound_made (tok k.LeftArrow w ∷ i)
+    bound_sound i = sound_refuse i (sample_form (bound_form inner x) bound_typed (each_bound bound_typed).sample)
 
-    stmt_comes : {i j : List Tok} {y : Stmt} → AllCount i → SpellsStmt d i y j → Comes i y j (r.stmt n i)
-    unfolding r.stmt first_spot
-    stmt_comes all (g.stmt_read {i = i} {j = j} {r = l} {x = x} {y = y} {q = q} {z = z} {w = w} {w1 = w1} {w2 = w2} {w3 = w3} {w4 = w4} {w5 = w5} {w6 = w6} {w7 = w7} {w8 = w8} {w9 = w9} e t b) =
-        named_exact.complete _ l _ all (
-          w.text,
-          tok k.Colon w1 ∷ tok q w2 ∷ tok k.LeftArrow w3 ∷ tok k.Read w4 ∷ i,
-          is_name,
-          binds_read (
-            z,
-            tok k.LeftArrow w3 ∷ tok k.Read w4 ∷ i,
-            is_sort e,
-            (
-              tt,
-              tok k.Read w4 ∷ i,
-              taken,
-              (
-                tt,
-                i,
-                taken,
-                (
-                  x,
-                  tok k.At w5 ∷ tok k.Num w6 ∷ tok k.As w7 ∷ tok k.Name w8 ∷ tok k.By w9 ∷ j,
-                  t,
-                  (
-                    w6.value,
-                    tok k.As w7 ∷ tok k.Name w8 ∷ tok k.By w9 ∷ j,
-                    is_atom,
-                    (tt, tok k.Name w8 ∷ tok k.By w9 ∷ j, taken, (w8.text, tok k.By w9 ∷ j, is_name, (y, l, (tt, j, taken, b), nothing))),
-                  ),
-                ),
-              ),
-            ),
-          ),
-        ) refl
-    stmt_comes all (g.stmt_write {i = i} {j = j} {l = l} {r = o} {x = x} {u = u} {y = y} {w = w} {w1 = w1} {w2 = w2} {w3 = w3} t v b) =
-        writes_exact.complete _ o _ all (tt, i, taken, (x, j, t, (u, tok k.At w1 ∷ tok k.Num w2 ∷ tok k.By w3 ∷ l, v, (w2.value, tok k.By w3 ∷ l, is_atom, (y, o, (tt, l, taken, b), nothing))))) refl
-    stmt_comes all (g.stmt_alloc {i = i} {r = o} {x = x} {w = w} {w1 = w1} {w2 = w2} {w3 = w3} {w4 = w4} t) =
-        named_exact.complete _ o _ all (w.text, tok k.LeftArrow w1 ∷ tok k.Alloc w2 ∷ tok k.LParen w3 ∷ i, is_name, binds_alloc (tt, tok k.LParen w3 ∷ i, taken, (tt, i, taken, (x, tok k.RParen w4 ∷ o, t, (tt, o, taken, nothing))))) refl
-    stmt_comes all (g.stmt_free {i = i} {j = j} {r = o} {x = x} {y = y} {w = w} {w1 = w1} {w2 = w2} {w3 = w3} t b) =
-        frees_exact.complete _ o _ all (tt, i, taken, (x, tok k.At w1 ∷ tok k.Num w2 ∷ tok k.By w3 ∷ j, t, (w2.value, tok k.By w3 ∷ j, is_atom, (y, o, (tt, j, taken, b), nothing)))) refl
+    same_bound : (f : BoundForm) (i j : List Tok) (y : StmtKind) → bound_form inner' x f i y j → at_semicolon (first_kind j) ≡ true
+        → r.bound_by readers x (first_kind i) i ≡ read_bound f i
+    unfolding read_bound expect same_kind rest
+    same_bound bound_typed i j y (word h) stop = refl
+    same_bound bound_made i j y (word h) stop = refl
 
-    pub exact_stmt : Exact (SpellsStmt d) anywhere (r.stmt n)
-    exact_stmt = record { says = stmt_says; complete = λ i j y all h stop. stmt_comes all h }
+    after_bound : Exact (OneOf (bound_form inner x)) (OneOf (bound_form inner' x)) at_semicolon (look (r.bound_by readers x))
+    after_bound = exact_forms read_bound each_bound bound_typed bound_sound same_bound
 
--- ---- lists of statements
+  bound_exact : Exact (Bound inner) (Bound inner') at_semicolon (r.bound readers)
+  unfolding r.bound
+  bound_exact = exact_named after_bound
 
-begins : {d : ℕ} {i j : List Tok} {y : Stmt} → SpellsStmt d i y j → begins_stmt (first_kind i) ≡ true
-begins (g.stmt_read e t b) = refl
-begins (g.stmt_write t v b) = refl
-begins (g.stmt_alloc t) = refl
-begins (g.stmt_free t b) = refl
+  -- ---- all statements
 
-module _ (d : ℕ) where
-  -- stmt ";"
-  abbrev Ended : Rel Stmt
-  Ended = Then (SpellsStmt d) (λ x. Then (Takes k.Semicolon) (λ _. Nothing x))
+  -- what reads each form, and that it reads it
+  abbrev read_form : StmtForm → Reader StmtKind
+  read_form stmt_write = expect k.Write >> r.write readers
+  read_form stmt_free = expect k.Free >> r.at_cell readers c.Free
+  read_form stmt_publish = expect k.Publish >> r.at_cell readers c.Publish
+  read_form stmt_retract = expect k.Retract >> r.at_cell readers c.Retract
+  read_form stmt_par = expect k.LParen >> r.par readers
+  read_form stmt_step = r.step readers
+  read_form _ = r.bound readers
 
-  ended_begins : (i j : List Tok) (y : Stmt) → Ended i y j → begins_stmt (first_kind i) ≡ true
-  ended_begins i j y h = begins h.2
+  at_cell : (node : Term → ℕ → Proof → StmtKind)
+      → Exact (Part (inner a_term) (λ x. g.AtCell inner (λ m q. Gives (node x m q)))) (Part (inner' a_term) (λ x. g.AtCell inner'
+      (λ m q. Gives (node x m q)))) anywhere (r.at_cell readers node)
+  unfolding r.at_cell
+  at_cell node = exact_before refl (e.exact a_term) (λ x. at_cell_exact e (node x))
 
-  one_in : {i j l r : List Tok} {x y : Stmt} {xs : List Stmt} {u : Unit {0}} → SpellsStmt d i x j → Takes k.Semicolon j u l → Nothing x l y r → {o : List Tok} → SpellsStmts d r xs o → SpellsStmts d i (y ∷ xs) o
-  one_in h taken nothing more = g.more_stmts h more
+  write_exact : Exact (g.stmt_form inner stmt_write) (g.stmt_form inner' stmt_write) anywhere (expect k.Write >> r.write readers)
+  unfolding r.write
+  write_exact = exact_word refl (exact_part (off_exact e) (λ x. exact_before refl (off_exact e) (λ y. at_cell_exact e (c.Write x y)))
+      (λ i j l x y h s stop. prim_off (first_kind j) ((part_begins (off_begins inner')).known j l y s)))
 
-  stmts_in : {i j : List Tok} {xs : List Stmt} → Many Ended i xs j → SpellsStmts d i xs j
-  stmts_in no_more = g.no_stmts
-  stmts_in (one_more (x, l, h, (u, m, c, b)) more) = one_in h c b (stmts_in more)
+  step_exact : Exact (g.stmt_form inner stmt_step) (g.stmt_form inner' stmt_step) at_semicolon (r.step readers)
+  unfolding r.step
+  step_exact = exact_spotted refl (λ spot. part_begins (forms_begin (step_form_begins inner)))
+      (λ spot. exact_map (λ x. c.Proof (record { spot = spot; kind = x })) (step_kind_exact e))
 
-  stmts_out : {i j : List Tok} {xs : List Stmt} → SpellsStmts d i xs j → Many Ended i xs j
-  stmts_out g.no_stmts = no_more
-  stmts_out (g.more_stmts {j = j} {x = x} {w = w} h more) = one_more (x, tok k.Semicolon w ∷ j, h, (tt, j, taken, nothing)) (stmts_out more)
+  form_exact : (f : StmtForm) → Exact (grouped inner f) (grouped inner' f) at_semicolon (read_form f)
+  unfolding r.par
+  form_exact stmt_read = bound_exact
+  form_exact stmt_write = exact_any write_exact
+  form_exact stmt_alloc = bound_exact
+  form_exact stmt_free = exact_any (exact_word refl (at_cell c.Free))
+  form_exact stmt_publish = exact_any (exact_word refl (at_cell c.Publish))
+  form_exact stmt_retract = exact_any (exact_word refl (at_cell c.Retract))
+  form_exact stmt_call = bound_exact
+  form_exact stmt_do = bound_exact
+  form_exact stmt_atomic = bound_exact
+  form_exact stmt_par = exact_any (exact_word refl (exact_param
+      (λ x. exact_word refl (exact_param (λ y. exact_word refl (exact_word refl (exact_word refl
+      (exact_block e (λ b. exact_block e (λ d.
+      exact_pure (c.Par x.name x.sort y.name y.sort b.0 b.1.0 b.1.1 d.0 d.1.0 d.1.1)))))))))))
+  form_exact stmt_step = step_exact
 
-  module _ (n : ℕ) (room : d + n ≡ 100) where
-    ended_exact : Exact Ended anywhere (r.ended n)
-    unfolding r.ended
-    ended_exact = exact_ended (SpellsStmt d) k.Semicolon (λ x. x) refl (exact_stmt d n room)
+  -- a step is read where no other word stands
+  step_way : (o : Option TokenKind) → begins_step o ≡ true → (i : List Tok) → r.stmt_kind_by readers o i ≡ r.step readers i
+  step_way (Some k.Have) h i = refl
+  step_way (Some k.Open) h i = refl
+  step_way (Some k.Unfold) h i = refl
+  step_way (Some k.Fold) h i = refl
+  step_way (Some k.Rewrite) h i = refl
+  step_way (Some k.Use) h i = refl
+  step_way _ h i = cc
 
-    shorter : (i : List Tok) {j l m : List Tok} {x y : Stmt} {u : Unit {0}} → length j ≤ length i → Takes k.Semicolon j u l → Nothing x l y m → suc (length m) ≤ length i
-    shorter i fewer taken nothing = omega arith
+  step_word : BeginsWith begins_step (g.stmt_form inner' stmt_step)
+  step_word = spotted_begins (λ spot. part_begins (forms_begin (step_form_begins inner')))
 
-    ended_shrinks : (i j : List Tok) (y : Stmt) → AllCount i → Ended i y j → suc (length j) ≤ length i
-    ended_shrinks i j y all (x, l, h, (u, m, c, b)) = shorter i (((exact_stmt d n room).complete i l x all h refl).fewer) c b
+  same_form : (f : StmtForm) (i j : List Tok) (x : StmtKind) → grouped inner' f i x j → at_semicolon (first_kind j) ≡ true
+      → r.stmt_kind readers i ≡ read_form f i
+  unfolding r.stmt_kind expect same_kind rest
+  same_form stmt_read i j x (named h) stop = refl
+  same_form stmt_write i j x (word h) stop = refl
+  same_form stmt_alloc i j x (named h) stop = refl
+  same_form stmt_free i j x (word h) stop = refl
+  same_form stmt_publish i j x (word h) stop = refl
+  same_form stmt_retract i j x (word h) stop = refl
+  same_form stmt_call i j x (named h) stop = refl
+  same_form stmt_do i j x (named h) stop = refl
+  same_form stmt_atomic i j x (named h) stop = refl
+  same_form stmt_par i j x (word h) stop = refl
+  same_form stmt_step i j x h stop = step_way (first_kind i) (step_word.known i j x h) i
 
-    exact_stmts : Exact (SpellsStmts d) (λ o. true && not (begins_stmt o)) (r.stmts n)
-    unfolding r.stmts
-    exact_stmts = exact_by (Many Ended) (SpellsStmts d) (λ i j x h. stmts_in h) (λ i j x h. stmts_out h)
-        (exact_many Ended (r.ended n) ended_exact begins_stmt ended_begins ended_shrinks (λ o h. refl))
+  by_form : (f : StmtForm) (i : List Tok) → Sound (OneOf (grouped inner)) i (read_form f i)
+  by_form f i = sound_form (grouped inner) f i (read_form f i) ((form_exact f).sound i)
 
--- ---- ends and bodies
+  kind_sound : (i : List Tok) → Sound (OneOf (grouped inner)) i (r.stmt_kind readers i)
+  unfolding r.stmt_kind expect same_kind rest
+  kind_sound (tok k.Name w ∷ i) = by_form stmt_read (tok k.Name w ∷ i)
+  kind_sound (tok k.LParen w ∷ i) = by_form stmt_par (tok k.LParen w ∷ i)
+  kind_sound (tok k.Write w ∷ i) = by_form stmt_write (tok k.Write w ∷ i)
+  kind_sound (tok k.Free w ∷ i) = by_form stmt_free (tok k.Free w ∷ i)
+  kind_sound (tok k.Publish w ∷ i) = by_form stmt_publish (tok k.Publish w ∷ i)
+  kind_sound (tok k.Retract w ∷ i) = by_form stmt_retract (tok k.Retract w ∷ i)
+  kind_sound i = by_form stmt_step i
 
-module _ (d : ℕ) where
-  abbrev Rets : Spot → Rel End
-  Rets spot = Then (Takes k.Ret) (λ _. Then (OpenTerm d) (λ value. Then (Takes k.By) (λ _. Then (OpenGive d) (λ y. Nothing (record { spot = spot; kind = lasts.Ret value y })))))
+  stmt_kind_exact : Exact (OneOf (g.stmt_form inner)) (OneOf (g.stmt_form inner')) at_semicolon (r.stmt_kind readers)
+  stmt_kind_exact = exact_by (λ i j x h. into inner h.0 i j x h.1) (λ i j x h. (h.0, out inner' h.0 i j x h.1))
+      (exact_forms read_form form_exact stmt_free kind_sound same_form)
 
-  ret_in : {i i2 i3 i4 j : List Tok} {u u2 : Unit {0}} {value : Term} {y : Give} → Takes k.Ret i u i2 → OpenTerm d i2 value i3 → Takes k.By i3 u2 i4 → OpenGive d i4 y j
-      → SpellsEnd d i (record { spot = first_spot i; kind = lasts.Ret value y }) j
-  unfolding first_spot
-  ret_in taken t taken b = g.end_ret t b
+  -- ---- statements with their semicolons
 
-  end_in : {i j : List Tok} {y : End} → Rets (first_spot i) i y j → SpellsEnd d i y j
-  end_in {i = i} (u, i2, t1, (value, i3, t, (u2, i4, t2, (y, i5, b, c)))) = by_nothing (λ y j. SpellsEnd d i y j) c (ret_in t1 t t2 b)
+  -- at the spot of its first token, a statement and `;`
+  WithEnd : ((n : Nested) → Rel (Tree n)) → Rel Stmt
+  WithEnd rel = Spotted (λ spot. Part (OneOf (g.stmt_form rel)) (λ x. k.Semicolon ▸ Gives (record { spot = spot; kind = x })))
 
-  end_out : {i j : List Tok} {y : End} → SpellsEnd d i y j → Spotted Rets i y j
-  unfolding first_spot
-  end_out (g.end_ret {i = i} {j = j} {r = o} {x = x} {y = y} {v = v} t b) = (tt, i, taken, (x, tok k.By v ∷ j, t, (tt, j, taken, (y, o, b, nothing))))
+  ended_in : {i j : List Tok} {y : Stmt} → WithEnd inner i y j → g.ended inner i y j
+  unfolding WithEnd
+  ended_in (spotted (part h (word gives))) = part (spotted (part h gives)) (word gives)
 
-  end_first : {i j : List Tok} {y : End} → SpellsEnd d i y j → (true && not (begins_stmt (first_kind i))) ≡ true
-  end_first (g.end_ret t b) = refl
+  ended_out : {i j : List Tok} {y : Stmt} → g.ended inner' i y j → WithEnd inner' i y j
+  unfolding WithEnd
+  ended_out (part (spotted (part h gives)) (word gives)) = spotted (part h (word gives))
 
-  -- end "}", after these statements
-  abbrev Closes : List Stmt → Rel Body
-  Closes xs = Then (SpellsEnd d) (λ y. Then (Takes k.RBrace) (λ _. Nothing (record { stmts = xs; end = y })))
+  ended_exact : Exact (g.ended inner) (g.ended inner') anywhere (r.ended readers)
+  unfolding WithEnd r.ended
+  ended_exact = exact_by (λ i j x h. ended_in h) (λ i j x h. ended_out h) (exact_spotted refl (λ spot. part_begins
+      (forms_begin (stmt_form_begins inner)))
+      (λ spot. exact_until refl refl stmt_kind_exact (λ x. exact_pure (record { spot = spot; kind = x }))))
 
-  abbrev Braces : Rel Body
-  Braces = Then (Takes k.LBrace) (λ _. Then (SpellsStmts d) Closes)
-
-  brace_in : {i i2 i3 i4 j : List Tok} {u u2 : Unit {0}} {xs : List Stmt} {y : End} → Takes k.LBrace i u i2 → SpellsStmts d i2 xs i3 → SpellsEnd d i3 y i4 → Takes k.RBrace i4 u2 j
-      → SpellsBody d i (record { stmts = xs; end = y }) j
-  brace_in taken h b taken = g.a_body h b
-
-  body_in : {i j : List Tok} {y : Body} → Braces i y j → SpellsBody d i y j
-  body_in {i = i} (u, i2, t1, (xs, i3, h, (y, i4, b, (u2, i5, t2, c)))) = by_nothing (λ y j. SpellsBody d i y j) c (brace_in t1 h b t2)
-
-  body_out : {i j : List Tok} {y : Body} → SpellsBody d i y j → Braces i y j
-  body_out (g.a_body {i = i} {j = j} {r = o} {xs = xs} {y = y} {w = w} h b) = (tt, i, taken, (xs, j, h, (y, tok k.RBrace w ∷ o, b, (tt, o, taken, nothing))))
-
-  module _ (n : ℕ) (room : d + n ≡ 100) where
-    exact_end : Exact (SpellsEnd d) anywhere (r.end n)
-    unfolding r.end
-    exact_end = exact_by (Spotted Rets) (SpellsEnd d) (λ i j y h. end_in h) (λ i j y h. end_out h) (exact_spotted Rets (λ spot. exact_after k.Ret (
-        exact_before (OpenTerm d) k.By _ refl (exact_inner_term n d room) (λ value. exact_after k.By (exact_map (OpenGive d) (λ y. record { spot = spot; kind = lasts.Ret value y }) (exact_inner_give n d room))))))
-
-    pub exact_body : Exact (SpellsBody d) anywhere (r.body n)
-    unfolding r.body
-    exact_body = exact_by Braces (SpellsBody d) (λ i j y h. body_in h) (λ i j y h. body_out h) (exact_after k.LBrace (
-        exact_then (SpellsStmts d) Closes (exact_stmts d n room) (λ xs. exact_ended (SpellsEnd d) k.RBrace (λ y. record { stmts = xs; end = y }) refl exact_end)
-        (λ xs j l y h stop. end_first h.2)))
+  pub stmts_exact : ((n : Nested) → IsLocal (readers n)) → Exact (Many (g.ended inner)) (Many (g.ended inner')) (λ o. anywhere o && not
+      (begins_stmt o)) (r.stmts readers)
+  unfolding r.stmts
+  stmts_exact local = exact_repeat refl (ended_begins inner') (takes_ended readers local) (λ o h. refl) ended_exact

@@ -1,154 +1,226 @@
--- The readers of terms against the grammar.
-use Rattle.std.proofs.Common.{◌≡◌, ℕ, zero, suc, ◌+◌, ◌≤◌, subst, sym, refl, arith, Bool, true, false, ◌&&◌, List, [], ◌∷◌, Option, Some, None}
+-- The readers of terms are exact, where those of the constructs inside are.
+use Rattle.std.proofs.Common.{◌≡◌, sym, subst, refl, arith, Bool, true, false, inl, List, [], ◌∷◌, Option, Some, None}
 use Rattle.tht_tree.specs.declared.token.TokenKind.{TokenKind}
 use Rattle.tht_tree.specs.declared.token.TokenKind.TheVariants as k
 use Rattle.tht_tree.specs.declared.term.Term.{Term}
-use Rattle.tht_tree.specs.declared.term.Term.TheVariants as terms
-use Rattle.tht_tree.specs.Tokens.{deep, Mark, counts_at, Info, Tok, tok, kind_of, mark_of, first_kind}
+use Rattle.tht_tree.specs.declared.term.Term.TheVariants as t
+use Rattle.tht_tree.specs.Tokens.{Info, Tok, tok, first_kind}
+use Rattle.tht_tree.specs.Productions.{Rel, Gives, gives, Word, word, named, numbered, Part, part}
 use Rattle.tht_tree.specs.Grammar as g
-use Rattle.tht_tree.specs.Grammar.{TermRule, SpellsTerm, Within, InChain, OpenTerm}
-use Rattle.tht_grammar.specs.Steps.{Reader, ◌>>=◌, pure, same_kind, is, rest, first_text, first_value, expect, refuse}
+use Rattle.tht_tree.specs.Grammar.{Nested, Tree, a_term, after_not, after_link, after_len, PrimForm, prim_num, prim_true, prim_false, prim_null, prim_nil, prim_name, prim_unit, prim_paren, prim_len, NegForm, neg_not, neg_cmp, implies, ors, ands, compares, links, adds, muls, dots}
+use Rattle.tht_grammar.specs.Steps.{Reader, ◌>>=◌, ◌>>◌, pure, same_kind, is, rest, first_value, first_text, expect}
+use Rattle.tht_grammar.specs.Words.{begins_prim, begins_term}
 use Rattle.tht_grammar.specs.Reading as r
-use Rattle.tht_grammar.specs.Reading.{adds}
-use Rattle.tht_grammar.proofs.Exact.{Rel, AllCount, Says, Comes, Exact, anywhere, Then, says_from, exact_then, exact_by, Nothing, nothing, by_nothing}
-use Rattle.tht_grammar.proofs.Parts.{same_is, same_self, Takes, taken, exact_ended}
-use Rattle.tht_grammar.proofs.Loops.{none, Tail, ends, goes_on, exact_chain}
+use Rattle.tht_grammar.proofs.Bools.{left_true}
+use Rattle.tht_grammar.proofs.Beginnings.{cmp_begins}
+use Rattle.tht_grammar.proofs.Exact.{Sound, Sample, blank, Reaches, Exact, anywhere, exact_pure, exact_by, sound_refuse, sample_by}
+use Rattle.tht_grammar.proofs.Sequences.{same_is, same_self, sound_one, exact_word, exact_then, exact_until, exact_map}
+use Rattle.tht_grammar.proofs.Choices.{sound_form, in_form, sound_word}
+use Rattle.tht_grammar.proofs.Chains.{none, StopsAt, exact_chain, exact_optional}
+use Rattle.tht_grammar.proofs.Lists.{exact_listed}
+use Rattle.tht_grammar.proofs.NameLists.{exact_offset}
+use Rattle.tht_grammar.proofs.Constructs.{Constructs, term_item, stops_off, stops_prod, stops_sum, stops_app, stops_cmp, stops_conj, stops_disj, stops_term}
 
--- ---- what begins and what ends a term
+-- ---- each level stops before its own operators
 
-abbrev pub begins_term : Option TokenKind → Bool
-begins_term (Some k.Num) = true
-begins_term (Some k.Name) = true
-begins_term (Some k.LParen) = true
-begins_term _ = false
+muls_stop : StopsAt stops_off muls
+muls_stop (Some k.Star) node h = refl
+muls_stop _ node h = cc
 
-begins_of : {d : ℕ} {u : TermRule} {i j : List Tok} {x : Term} → SpellsTerm d u i x j → begins_term (first_kind i) ≡ true
-begins_of (g.term_sum h) = begins_of h
-begins_of (g.sum_one h) = begins_of h
-begins_of (g.sum_more h f a) = begins_of h
-begins_of (g.off_prim h) = begins_of h
-begins_of g.prim_num = refl
-begins_of g.prim_var = refl
-begins_of g.prim_unit = refl
-begins_of (g.prim_paren w h) = refl
+adds_stop : StopsAt stops_prod adds
+adds_stop (Some k.Plus) node h = refl
+adds_stop (Some k.Minus) node h = refl
+adds_stop _ node h = cc
 
-no_rparen : (o : Option TokenKind) → begins_term o ≡ true → is k.RParen o ≡ false
+links_stop : StopsAt stops_sum links
+links_stop (Some k.Link) node h = refl
+links_stop (Some k.Join) node h = refl
+links_stop _ node h = cc
+
+compares_stop : StopsAt stops_app compares
+compares_stop (Some k.Equal) node h = refl
+compares_stop (Some k.Less) node h = refl
+compares_stop (Some k.LessEqual) node h = refl
+compares_stop _ node h = cc
+
+ands_stop : StopsAt stops_cmp ands
+ands_stop (Some k.And) node h = refl
+ands_stop _ node h = cc
+
+ors_stop : StopsAt stops_conj ors
+ors_stop (Some k.Or) node h = refl
+ors_stop _ node h = cc
+
+implies_stop : StopsAt stops_disj implies
+implies_stop (Some k.Imp) node h = refl
+implies_stop _ node h = cc
+
+-- what begins a term closes no parenthesis
+no_paren : (o : Option TokenKind) → begins_term o ≡ true → is k.RParen o ≡ false
 unfolding same_kind
-no_rparen (Some k.Num) h = refl
-no_rparen (Some k.Name) h = refl
-no_rparen (Some k.LParen) h = refl
-no_rparen _ h = cc
+no_paren (Some k.RParen) h = cc
+no_paren (Some _) h = refl
+no_paren None h = cc
 
--- a term goes on with an operator
-abbrev pub stops_term : Option TokenKind → Bool
-stops_term o = true && none (adds o)
+no_not : (o : Option TokenKind) → begins_prim o ≡ true → is k.Not o ≡ false
+unfolding same_kind
+no_not (Some k.Not) h = cc
+no_not (Some _) h = refl
+no_not None h = cc
 
--- ---- a construct that counts as one more open
+module _ {inner inner' : (n : Nested) → Rel (Tree n)} {readers : (n : Nested) → Reader (Tree n)} (c : Constructs inner inner' readers) where
+  -- ---- prim
 
-pub within_any : (d : ℕ) → d ≤ 100 → (i : List Tok) → Within d i
-within_any d h [] = tt
-within_any d h (t ∷ i) = λ yes. h
+  -- what follows an opening parenthesis
+  paren_exact : Exact (Part (inner a_term) (λ x. Word k.RParen (Gives x))) (Part (inner' a_term) (λ x. Word k.RParen (Gives x))) anywhere
+      (readers a_term >>= (λ x. expect k.RParen >> pure x))
+  paren_exact = exact_until refl refl (c.exact a_term) (λ x. exact_pure x)
 
--- where the limit counts, it is kept
-pub within_counts : (d : ℕ) (t : Tok) (i : List Tok) → AllCount (t ∷ i) → Within d (t ∷ i) → d ≤ 100
-within_counts d t i all w = let P : Mark → Type 0 = λ m. counts_at m deep ≡ true → d ≤ 100 in subst P all.0 w refl
+  len_exact : Exact (Part (inner after_len) (λ x. Gives (t.Len x))) (Part (inner' after_len) (λ x. Gives (t.Len x))) anywhere
+      (readers after_len >>= (λ x. pure (t.Len x)))
+  len_exact = exact_map t.Len (c.exact after_len)
 
--- no more may be open
-pub exact_full : {A : Type 0} (d : ℕ) (R : Rel A) → 100 ≤ d → ((j : List Tok) (x : A) → R [] x j → ⊥) → {stops : Option TokenKind → Bool}
-    → Exact (λ i x j. Within (suc d) i × R i x j) stops refuse
-exact_full {A = A} d R full some {stops = stops} = record { says = λ i. tt; complete = go }
-  where
-    go : (i j : List Tok) (x : A) → AllCount i → Within (suc d) i × R i x j → stops (first_kind j) ≡ true → Comes i x j None
-    go [] j x all h stop = absurd (some j x h.1)
-    go (t ∷ i) j x all h stop = let below : suc d ≤ 100 = within_counts (suc d) t i all h.0 in absurd (omega arith)
+  prim_sample : Sample (g.prim inner)
+  prim_sample = record {
+    more = tok k.Num blank
+        ∷ [];
+    value = t.Num 0;
+    blanks = (refl, tt);
+    begins = λ l n. refl;
+    spells = λ l n. (prim_num, numbered gives);
+  }
 
--- ---- the rules of terms
-
-module _ (d : ℕ) (inner : Reader Term) (e : Exact (OpenTerm d) stops_term inner) where
-  -- a term and the closing parenthesis
-  abbrev Closing : Rel Term
-  Closing = Then (OpenTerm d) (λ x. Then (Takes k.RParen) (λ _. Nothing x))
-
-  closing : Exact Closing anywhere (inner >>= (λ x. expect k.RParen >>= (λ _. pure x)))
-  closing = exact_ended (OpenTerm d) k.RParen (λ x. x) refl e
-
-  closing_in : (v : Info) (i j : List Tok) (x : Term) → Closing i x j → SpellsTerm d g.prim (tok k.LParen v ∷ i) x j
-  closing_in v i j x (y, l, (w, h), (u, n, c, b)) = by_nothing (λ z q. SpellsTerm d g.prim (tok k.LParen v ∷ i) z q) b (go w h c)
-    where
-      go : {i l n : List Tok} {y : Term} {u : Unit {0}} → Within (suc d) i → SpellsTerm (suc d) g.term i y l → Takes k.RParen l u n → SpellsTerm d g.prim (tok k.LParen v ∷ i) y n
-      go w h taken = g.prim_paren w h
-
-  paren_says : (v : Info) (i : List Tok) (b : Bool) → is k.RParen (first_kind i) ≡ b → Says (SpellsTerm d g.prim) (tok k.LParen v ∷ i) (r.after_paren inner b i)
+  closed_sound : (w : Info) (i : List Tok) (b : Bool) → is k.RParen (first_kind i) ≡ b
+      → Sound (g.prim inner) (tok k.LParen w ∷ i) (r.after_paren readers b i)
   unfolding rest
-  paren_says v [] true h = cc
-  paren_says v (tok q w ∷ i) true h = let P : TokenKind → Type 0 = λ q. SpellsTerm d g.prim (tok k.LParen v ∷ tok q w ∷ i) terms.Unit i in subst P (sym (same_is q k.RParen h)) g.prim_unit
-  paren_says v i false h = says_from Closing (SpellsTerm d g.prim) i (tok k.LParen v ∷ i) (closing_in v i) _ (closing.says i)
+  closed_sound w [] true h = cc
+  closed_sound w (tok q v ∷ i) true h = record {
+    taken = tok k.LParen w ∷ tok q v
+        ∷ [];
+    all = refl;
+    spells = λ l n. (prim_unit, word (rw (same_is q k.RParen h) (word gives)));
+  }
+  closed_sound w i false h = sound_word k.LParen paren_exact (in_form (g.prim_form inner) prim_paren) w i
 
-  prim_says : (i : List Tok) → Says (SpellsTerm d g.prim) i (r.prim inner i)
-  unfolding r.prim rest first_value first_text
-  prim_says [] = tt
-  prim_says (tok k.Num w ∷ i) = g.prim_num
-  prim_says (tok k.Name w ∷ i) = g.prim_var
-  prim_says (tok k.LParen w ∷ i) = paren_says w i (is k.RParen (first_kind i)) refl
-  prim_says (tok q w ∷ i) = tt
+  prim_sound : (i : List Tok) → Sound (g.prim inner) i (r.prim readers i)
+  unfolding r.prim r.closed rest first_value first_text
+  prim_sound [] = sound_refuse [] prim_sample
+  prim_sound (tok k.Num w ∷ i) = sound_one (tok k.Num w) i (t.Num w.value) (λ l. (prim_num, numbered gives))
+  prim_sound (tok k.True w ∷ i) = sound_one (tok k.True w) i t.True (λ l. (prim_true, word gives))
+  prim_sound (tok k.False w ∷ i) = sound_one (tok k.False w) i t.False (λ l. (prim_false, word gives))
+  prim_sound (tok k.Null w ∷ i) = sound_one (tok k.Null w) i t.Null (λ l. (prim_null, word gives))
+  prim_sound (tok k.Nil w ∷ i) = sound_one (tok k.Nil w) i t.Nil (λ l. (prim_nil, word gives))
+  prim_sound (tok k.Name w ∷ i) = sound_one (tok k.Name w) i (t.Var w.text) (λ l. (prim_name, named gives))
+  prim_sound (tok k.LParen w ∷ i) = closed_sound w i (is k.RParen (first_kind i)) refl
+  prim_sound (tok k.Len w ∷ i) = sound_word k.Len len_exact (in_form (g.prim_form inner) prim_len) w i
+  prim_sound (tok _ w ∷ i) = sound_refuse _ prim_sample
 
-  prim_comes : {i j : List Tok} {x : Term} → AllCount i → SpellsTerm d g.prim i x j → Comes i x j (r.prim inner i)
-  unfolding r.prim rest first_value first_text
-  prim_comes all g.prim_num = record { found = refl; counting = all.1; fewer = omega arith }
-  prim_comes all g.prim_var = record { found = refl; counting = all.1; fewer = omega arith }
-  prim_comes all g.prim_unit = record { found = rw (same_self k.RParen) refl; counting = all.1.1; fewer = omega arith }
-  prim_comes all (g.prim_paren {i = i} {j = j} {x = x} {w = w} a h) =
-      let c = closing.complete i j x all.1 (x, tok k.RParen w ∷ j, (a, h), (tt, j, taken, nothing)) refl in
-      let fewer = c.fewer in
-      record { found = rw (no_rparen (first_kind i) (begins_of h), c.found) refl; counting = c.counting; fewer = omega arith }
+  paren_first : {i j : List Tok} {x : Term} → Part (inner' a_term) (λ x. Word k.RParen (Gives x)) i x j → is k.RParen (first_kind i) ≡ false
+  paren_first (part h s) = no_paren _ ((c.known_too a_term).known _ _ _ h)
 
-  pub exact_prim : Exact (SpellsTerm d g.prim) anywhere (r.prim inner)
-  exact_prim = record { says = prim_says; complete = λ i j x all h stop. prim_comes all h }
+  prim_reaches : (f : PrimForm) (i j : List Tok) (x : Term) → g.prim_form inner' f i x j → Reaches x j (r.prim readers i)
+  unfolding r.prim r.closed rest first_value first_text
+  prim_reaches prim_num _ _ _ (numbered gives) = inl refl
+  prim_reaches prim_true _ _ _ (word gives) = inl refl
+  prim_reaches prim_false _ _ _ (word gives) = inl refl
+  prim_reaches prim_null _ _ _ (word gives) = inl refl
+  prim_reaches prim_nil _ _ _ (word gives) = inl refl
+  prim_reaches prim_name _ _ _ (named gives) = inl refl
+  prim_reaches prim_unit _ _ _ (word (word gives)) = rw (same_self k.RParen) (inl refl)
+  prim_reaches prim_paren _ j x (word {i = i} h) = rw (paren_first h) (paren_exact.complete i j x h refl)
+  prim_reaches prim_len _ j x (word {i = i} h) = len_exact.complete i j x h refl
 
-  off_out : {i j : List Tok} {x : Term} → SpellsTerm d g.off i x j → SpellsTerm d g.prim i x j
-  off_out (g.off_prim h) = h
+  pub prim_exact : Exact (g.prim inner) (g.prim inner') anywhere (r.prim readers)
+  prim_exact = record { sound = prim_sound; complete = λ i j x h stop. prim_reaches h.0 i j x h.1; sample = prim_sample }
 
-  pub exact_off : Exact (SpellsTerm d g.off) anywhere (r.prim inner)
-  exact_off = exact_by (SpellsTerm d g.prim) (SpellsTerm d g.off) (λ i j x h. g.off_prim h) (λ i j x h. off_out h) exact_prim
+  -- ---- chains and optional parts
 
-  abbrev Rest : ℕ → Term → Rel Term
-  Rest n x i z j = Tail adds (SpellsTerm d g.off) n x i z j
+  pub off_exact : Exact (g.off inner) (g.off inner') stops_off (r.off readers)
+  unfolding r.off
+  off_exact = exact_chain refl (λ o node h. refl) prim_exact exact_offset
 
-  plus_more : (n : ℕ) (i j l : List Tok) (o : Tok) (x y : Term) (node : Term → Term → Term) → SpellsTerm d (g.sum n) i x (o ∷ j) → adds (Some (kind_of o)) ≡ Some node → InChain n (mark_of o)
-      → SpellsTerm d g.off j y l → SpellsTerm d (g.sum (suc n)) i (node x y) l
-  plus_more n i j l (tok k.Plus w) x y node h e f a =
-      let same : terms.Add ≡ node = cc in let P : (Term → Term → Term) → Type 0 = λ c. SpellsTerm d (g.sum (suc n)) i (c x y) l in subst P same (g.sum_more h f a)
-  plus_more n i j l (tok _ w) x y node h e f a = cc
+  pub prod_exact : Exact (g.prod inner) (g.prod inner') stops_prod (r.prod readers)
+  unfolding r.prod
+  prod_exact = exact_chain refl muls_stop off_exact off_exact
 
-  abbrev Sums : Rel Term
-  Sums i x j = (n : ℕ) × SpellsTerm d (g.sum n) i x j
-
-  sum_rest : {n : ℕ} {i j l : List Tok} {x z : Term} → SpellsTerm d (g.sum n) i x j → Rest n x j z l → Sums i z l
-  sum_rest {n = n} h ends = (n, h)
-  sum_rest h (goes_on e f a more) = sum_rest (plus_more _ _ _ _ _ _ _ _ h e f a) more
-
-  sum_out : {n : ℕ} {i j l : List Tok} {x z : Term} → SpellsTerm d (g.sum n) i x j → Rest n x j z l → Then (SpellsTerm d g.off) (Rest 0) i z l
-  sum_out (g.sum_one {j = j} {x = x} h) b = (x, j, h, b)
-  sum_out (g.sum_more h f a) b = sum_out h (goes_on refl f a b)
-
-  exact_sums : Exact Sums stops_term (r.sum inner)
+  pub sum_exact : Exact (g.sum inner) (g.sum inner') stops_sum (r.sum readers)
   unfolding r.sum
-  exact_sums = exact_by (Then (SpellsTerm d g.off) (Rest 0)) Sums (λ i j z (x, l, h, b). sum_rest (g.sum_one h) b) (λ i j x h. sum_out h.1 ends)
-      (exact_then (SpellsTerm d g.off) (Rest 0) exact_off (λ x. exact_chain adds (SpellsTerm d g.off) (r.prim inner) exact_off refl (λ o node h. refl) x) (λ x j l y h s. refl))
+  sum_exact = exact_chain refl adds_stop prod_exact prod_exact
 
-  term_out : {i j : List Tok} {x : Term} → SpellsTerm d g.term i x j → Sums i x j
-  term_out (g.term_sum {n = n} h) = (n, h)
+  pub app_exact : Exact (g.app inner) (g.app inner') stops_app (r.app readers)
+  unfolding r.app
+  app_exact = exact_optional refl links_stop (λ o h. h) sum_exact (c.exact after_link)
 
-  pub exact_term : Exact (SpellsTerm d g.term) stops_term (r.sum inner)
-  exact_term = exact_by Sums (SpellsTerm d g.term) (λ i j x h. g.term_sum h.1) (λ i j x h. term_out h) exact_sums
+  pub cmp_exact : Exact (g.cmp inner) (g.cmp inner') stops_cmp (r.cmp readers)
+  unfolding r.cmp
+  cmp_exact = exact_optional refl compares_stop (λ o h. left_true (stops_app o) (none (compares o)) h) app_exact app_exact
 
-some_tokens : {d : ℕ} {u : TermRule} {j : List Tok} {x : Term} → SpellsTerm d u [] x j → ⊥
-some_tokens h = let no = begins_of h in cc
+  -- ---- neg
 
--- a term inside, where d constructs are open and n more may be
-pub exact_inner_term : (n d : ℕ) → d + n ≡ 100 → Exact (OpenTerm d) stops_term (r.inner_term n)
-unfolding r.inner_term
-exact_inner_term zero d s = exact_full d (SpellsTerm (suc d) g.term) (omega arith) (λ j x h. some_tokens h)
-exact_inner_term (suc n) d s = let below : suc d ≤ 100 = omega arith in
-    exact_by (SpellsTerm (suc d) g.term) (OpenTerm d) (λ i j x h. (within_any (suc d) below i, h)) (λ i j x h. h.1)
-    (exact_term (suc d) (r.inner_term n) (exact_inner_term n (suc d) (omega arith)))
+  not_exact : Exact (Part (inner after_not) (λ x. Gives (t.Not x))) (Part (inner' after_not) (λ x. Gives (t.Not x))) stops_cmp
+      (readers after_not >>= (λ x. pure (t.Not x)))
+  not_exact = exact_map t.Not (c.exact after_not)
+
+  neg_at : (q : TokenKind) (w : Info) (i : List Tok) (b : Bool) → same_kind q k.Not ≡ b
+      → Sound (g.neg inner) (tok q w ∷ i) (r.neg_by readers b (tok q w ∷ i))
+  unfolding rest
+  neg_at q w i true h = let P : TokenKind → Type 0 = λ q. Sound (g.neg inner) (tok q w ∷ i) (r.neg_by readers true (tok q w ∷ i)) in
+      subst P (sym (same_is q k.Not h)) (sound_word k.Not not_exact (in_form (g.neg_form inner) neg_not) w i)
+  neg_at q w i false h = sound_form (g.neg_form inner) neg_cmp (tok q w ∷ i) (r.cmp readers (tok q w ∷ i)) (cmp_exact.sound (tok q w ∷ i))
+
+  neg_sound : (i : List Tok) → Sound (g.neg inner) i (r.neg readers i)
+  unfolding r.neg
+  neg_sound [] = sound_form (g.neg_form inner) neg_cmp [] (r.cmp readers []) (cmp_exact.sound [])
+  neg_sound (tok q w ∷ i) = neg_at q w i (same_kind q k.Not) refl
+
+  neg_reaches : (f : NegForm) (i j : List Tok) (x : Term) → g.neg_form inner' f i x j → stops_cmp (first_kind j) ≡ true
+      → Reaches x j (r.neg readers i)
+  unfolding r.neg rest
+  neg_reaches neg_not _ j x (word {i = i} h) stop = rw (same_self k.Not) (not_exact.complete i j x h stop)
+  neg_reaches neg_cmp i j x h stop = rw (no_not (first_kind i) ((cmp_begins inner').known i j x h)) (cmp_exact.complete i j x h stop)
+
+  pub neg_exact : Exact (g.neg inner) (g.neg inner') stops_cmp (r.neg readers)
+  neg_exact = record {
+    sound = neg_sound;
+    complete = λ i j x h stop. neg_reaches h.0 i j x h.1 stop;
+    sample = sample_by
+        (in_form (g.neg_form inner) neg_cmp) cmp_exact.sample;
+  }
+
+  pub conj_exact : Exact (g.conj inner) (g.conj inner') stops_conj (r.conj readers)
+  unfolding r.conj
+  conj_exact = exact_chain refl ands_stop neg_exact neg_exact
+
+  pub disj_exact : Exact (g.disj inner) (g.disj inner') stops_disj (r.disj readers)
+  unfolding r.disj
+  disj_exact = exact_chain refl ors_stop conj_exact conj_exact
+
+  pub term_exact : Exact (g.term inner) (g.term inner') stops_term (r.term readers)
+  unfolding r.term
+  term_exact = exact_optional refl implies_stop (λ o h. h) disj_exact (c.exact a_term)
+
+  -- ---- terms in parentheses and brackets
+
+  pub arguments_exact : Exact (g.arguments inner) (g.arguments inner') anywhere (r.arguments readers)
+  unfolding r.arguments
+  arguments_exact = exact_word refl (exact_until refl refl (exact_listed 64 (omega arith) refl (term_item c)) (λ ts. exact_pure ts))
+
+  pub bracketed_exact : Exact (g.Bracketed inner (λ x. Gives x)) (g.Bracketed inner' (λ x. Gives x)) anywhere (r.bracketed readers)
+  unfolding r.bracketed
+  bracketed_exact = exact_word refl (exact_until refl refl (c.exact a_term) (λ x. exact_pure x))
+
+-- a part in brackets, and what follows it
+bracketed_in : {A : Type 0} (inner : (n : Nested) → Rel (Tree n)) {R : Term → Rel A} {i j : List Tok} {x : A}
+    → Part (g.Bracketed inner (λ x. Gives x)) R i x j → g.Bracketed inner R i x j
+bracketed_in inner (part (word (part h (word gives))) s) = word (part h (word s))
+
+bracketed_out : {A : Type 0} (inner : (n : Nested) → Rel (Tree n)) {R : Term → Rel A} {i j : List Tok} {x : A} → g.Bracketed inner R i x j
+    → Part (g.Bracketed inner (λ x. Gives x)) R i x j
+bracketed_out inner (word (part h (word s))) = part (word (part h (word gives))) s
+
+pub exact_bracketed : {A : Type 0} {inner inner' : (n : Nested) → Rel (Tree n)} {readers : (n : Nested) → Reader (Tree n)}
+    {R S : Term → Rel A} {stops : Option TokenKind → Bool} {p : Term → Reader A}
+    → Constructs inner inner' readers → ((x : Term) → Exact (R x) (S x) stops (p x))
+    → Exact (g.Bracketed inner R) (g.Bracketed inner' S) stops (r.bracketed readers >>= p)
+exact_bracketed {inner = inner} {inner' = inner'} c e = exact_by (λ i j x h. bracketed_in inner h) (λ i j x h. bracketed_out inner' h)
+    (exact_then (bracketed_exact c) e)

@@ -1,64 +1,101 @@
--- What bytes spell: what is read of them, and that they spell one file at most.
-use Rattle.std.proofs.Common.{◌≡◌, ℕ, ap, sym, subst, ◌∙◌, refl, List, Some, Ok, Err}
+-- What the reader of whole files says, and what bytes spell.
+use Rattle.std.proofs.Common.{◌≡◌, ℕ, ap, sym, subst, ◌∙◌, refl, arith, List, [], ◌∷◌, Ok, Err}
 use Rattle.tht_tree.specs.declared.plain.Spot.{Spot}
 use Rattle.tht_tree.specs.declared.file.Source1.{Source1}
-use Rattle.tht_tree.specs.Tokens.{Tok, mark_of, counts}
-use Rattle.tht_tree.specs.Splitting as b
+use Rattle.tht_tree.specs.Tokens.{Tok, first_kind}
 use Rattle.tht_tree.specs.Splitting.{Split, Splits, LexFault, start_spot}
-use Rattle.tht_tree.specs.Spelling.{IsSpelled}
+use Rattle.tht_tree.specs.Productions.{Rel}
+use Rattle.tht_tree.specs.Grammar as g
+use Rattle.tht_tree.specs.Grammar.{Nested, Tree, spells, SpellsFile}
+use Rattle.tht_tree.specs.Faults.{Fault, IsFault, spot_in}
+use Rattle.tht_tree.specs.Spelling.{IsSpelled, FaultsInSplitting, FaultsInSpelling}
+use Rattle.tht_grammar.specs.Steps.{Outcome}
 use Rattle.tht_grammar.specs.Pieces.{split_from}
-use Rattle.tht_grammar.specs.Reading.{whole}
-use Rattle.tht_grammar.proofs.Exact.{AllCount}
+use Rattle.tht_grammar.specs.Reading as r
+use Rattle.tht_grammar.specs.Reading.{nested, whole}
+use Rattle.tht_grammar.proofs.FirstFault.{AllCount}
+use Rattle.tht_grammar.proofs.LocalRules.{file_is_local}
 use Rattle.tht_grammar.proofs.Splits.{split_complete, split_exact}
-use Rattle.tht_grammar.proofs.Files.{whole_says, whole_complete}
+use Rattle.tht_grammar.proofs.TextFaults.{tokens_count}
+use Rattle.tht_grammar.proofs.Exact.{Exact, anywhere}
+use Rattle.tht_grammar.proofs.Depth.{nested_exact}
+use Rattle.tht_grammar.proofs.Files.{file_exact}
+use Rattle.tht_grammar.proofs.Judge.{judge_ok, judge_complete, judge_fault}
 
--- ---- every limit counts at the tokens of a text
+-- a file with at most so many constructs inside one another
+abbrev FileWithin : ℕ → Rel Source1
+FileWithin n = g.file (spells n 0)
 
-abbrev Counts : Split → Type 0
-Counts (Ok ts) = AllCount ts
-Counts (Err e) = Unit {0}
+same_tokens : {ts us : List Tok} → ◌≡◌ {A = Split} (Ok ts) (Ok us) → ts ≡ us
+same_tokens e = cc
 
-counts_first : (t : Tok) (s : Split) → mark_of t ≡ counts → Counts s → Counts (b.prepend t s)
-counts_first t (Ok ts) e h = (e, h)
-counts_first t (Err f) e h = tt
+same_file : {a b : Source1} {j l : List Tok} → ◌≡◌ {A = Outcome Source1} (Ok (a, j)) (Ok (b, l)) → a ≡ b
+same_file {a = a} {b = b} {j = j} {l = l} e =
+    let pair : ◌≡◌ {A = Source1 × List Tok} (a, j) (b, l) = cc in ap (λ (p : Source1 × List Tok). p.0) pair
 
-counts_all : {p : Spot} {i : List ℕ} {s : Split} → Splits p i s → Counts s
-counts_all b.no_bytes = tt
-counts_all (b.a_blank e h) = counts_all h
-counts_all (b.a_comment e r h) = counts_all h
-counts_all (b.a_word {s = s} e r m h) = counts_first _ s refl (counts_all h)
-counts_all (b.too_long e r m) = tt
-counts_all (b.a_number {s = s} e r m h) = counts_first _ s refl (counts_all h)
-counts_all (b.too_big e r m) = tt
-counts_all (b.a_pair {s = s} e m h) = counts_first _ s refl (counts_all h)
-counts_all (b.a_single {s = s} e n m h) = counts_first _ s refl (counts_all h)
-counts_all (b.a_bad e n m) = tt
+-- the empty text spells no file
+pub empty_text_spells_none : (x : Source1) → IsSpelled x [] → ⊥
+unfolding split_from
+empty_text_spells_none x h = go h.tokens (split_complete h.split) h.spelled
+  where
+    go : (ts : List Tok) → split_from 0 start_spot [] ≡ Ok ts → SpellsFile ts x [] → ⊥
+    go [] e (n, s) = elim s [ ]
+    go (t ∷ ts) e s = let same : [] ≡ t ∷ ts = same_tokens e in cc
 
--- ---- what the bytes spell
+-- Up to a hundred constructs may be open. Three more leave room for what could stand where a fault is found.
+exact_at : (n : ℕ) → Exact (FileWithin 103) (FileWithin n) anywhere (r.file (nested 100))
+exact_at n = file_exact (nested_exact 100 0 (omega arith) 100 n (omega arith))
 
--- what is read of their tokens is spelled by the bytes
-pub text_says : (bytes : List ℕ) (ts : List Tok) (x : Source1) → split_from 0 start_spot bytes ≡ Ok ts → whole ts ≡ Some x → IsSpelled x bytes
-text_says bytes ts x e h = record {
-  tokens = ts;
-  split = let P : Split → Type 0 = Splits start_spot bytes in subst P e (split_exact start_spot bytes);
-  spelled = whole_says ts x h;
-}
+-- what is read is spelled by all of the tokens
+pub whole_ok : (i : List Tok) (x : Source1) → whole i ≡ Ok (x, []) → SpellsFile i x []
+unfolding whole
+whole_ok i x h = judge_ok FileWithin 103 (r.file (nested 100)) exact_at refl (file_is_local 100) i x h
 
--- the bytes that spell a file split, and it is read of their tokens
-pub text_split : (bytes : List ℕ) (x : Source1) (h : IsSpelled x bytes) → split_from 0 start_spot bytes ≡ Ok h.tokens
-text_split bytes x h = split_complete h.split
+-- what all of the tokens spell is read, where all limits count
+pub whole_complete : (i : List Tok) → AllCount i → (x : Source1) → SpellsFile i x [] → whole i ≡ Ok (x, [])
+unfolding whole
+whole_complete i all x h = judge_complete FileWithin 103 (r.file (nested 100)) exact_at refl (file_is_local 100) i all x h
 
-pub text_read : (bytes : List ℕ) (x : Source1) (h : IsSpelled x bytes) → whole h.tokens ≡ Some x
-text_read bytes x h = whole_complete h.tokens x (counts_all h.split) h.spelled
+-- a fault is the first one of the tokens
+pub whole_fault : (i : List Tok) (f : Fault) (j : List Tok) → whole i ≡ Err (f, j) → IsFault SpellsFile i f j
+unfolding whole
+whole_fault i f j h = judge_fault FileWithin 103 (r.file (nested 100)) exact_at refl (file_is_local 100) i (f, j) h
 
--- what the bytes spell is read of their tokens
-pub text_complete : (bytes : List ℕ) (ts : List Tok) (x : Source1) → split_from 0 start_spot bytes ≡ Ok ts → IsSpelled x bytes → whole ts ≡ Some x
-text_complete bytes ts x e h = let f = text_split bytes x h in let same : h.tokens ≡ ts = cc in ap whole (sym same) ∙ text_read bytes x h
+-- ---- bytes
 
--- bytes that do not split spell nothing
-pub text_refused : (bytes : List ℕ) (e : LexFault × Spot) (x : Source1) → split_from 0 start_spot bytes ≡ Err e → IsSpelled x bytes → ⊥
-text_refused bytes e x f h = let g = text_split bytes x h in cc
+module _ (bytes : List ℕ) where
+  -- what is read of their tokens is spelled by the bytes
+  pub text_ok : (ts : List Tok) (x : Source1) → split_from 0 start_spot bytes ≡ Ok ts → whole ts ≡ Ok (x, []) → IsSpelled x bytes
+  text_ok ts x e h = record {
+    tokens = ts;
+    split = let P : Split → Type 0 = Splits start_spot bytes in subst P e (split_exact start_spot bytes);
+    spelled = whole_ok ts x h;
+  }
 
--- the bytes spell one file at most
+  -- what the bytes spell is read of their tokens
+  pub text_complete : (ts : List Tok) (x : Source1) → split_from 0 start_spot bytes ≡ Ok ts → IsSpelled x bytes → whole ts ≡ Ok (x, [])
+  text_complete ts x e h =
+      let same : h.tokens ≡ ts = same_tokens (sym (split_complete h.split) ∙ e) in
+      ap whole (sym same) ∙ whole_complete h.tokens (tokens_count h.split) x h.spelled
+
+  -- where they are at fault
+  pub text_fault : (ts : List Tok) (f : Fault) (j : List Tok) → split_from 0 start_spot bytes ≡ Ok ts → whole ts ≡ Err (f, j)
+      → FaultsInSpelling bytes f (spot_in bytes j) (first_kind j)
+  text_fault ts f j e h = record {
+    tokens = ts;
+    left = j;
+    split = let P : Split → Type 0 = Splits start_spot bytes in subst P e (split_exact start_spot bytes);
+    fault = whole_fault ts f j h;
+    spot_is = refl;
+    found_is = refl;
+  }
+
+  -- where they do not split
+  pub text_split_fault : (f : LexFault) (spot : Spot) → split_from 0 start_spot bytes ≡ Err (f, spot) → FaultsInSplitting bytes f spot
+  text_split_fault f spot e = let P : Split → Type 0 = Splits start_spot bytes in subst P e (split_exact start_spot bytes)
+
+-- bytes spell one file at most
 pub one_file : (a b : Source1) (bytes : List ℕ) → IsSpelled a bytes → IsSpelled b bytes → a ≡ b
-one_file a b bytes h k = let e = text_complete bytes h.tokens b (text_split bytes a h) k in let f = text_read bytes a h in cc
+one_file a b bytes h s =
+    let e : split_from 0 start_spot bytes ≡ Ok h.tokens = split_complete h.split in
+    same_file (sym (text_complete bytes h.tokens a e h) ∙ text_complete bytes h.tokens b e s)

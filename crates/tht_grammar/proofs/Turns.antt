@@ -1,5 +1,5 @@
 -- What one turn of a lexer gives: the size of the piece at the front, its text, and the tokens from it on.
-use Rattle.std.proofs.Common.{◌≡◌, ℕ, zero, suc, ◌+◌, ◌-◌, ◌≤◌, ◌<◌, ap, sym, subst, ◌∙◌, refl, arith, Bool, true, false, nat_le, nat_lt, List, [], ◌∷◌, ◌++◌, length, take, drop, fold, append-nil, one-add, add-one, bytes_eq, if◌then◌else◌, Option, Some, None, Ok, Err}
+use Rattle.std.proofs.Common.{◌≡◌, ℕ, zero, suc, ◌+◌, ◌≤◌, ◌<◌, ap, sym, subst, ◌∙◌, refl, arith, Bool, true, false, nat_lt, List, [], ◌∷◌, ◌++◌, length, take, drop, append-nil, one-add, add-one, bytes_eq, Option, Some, None, Ok, Err}
 use Rattle.std.specs.List.{prefix_len, list_all}
 use Rattle.std.specs.Str.{IsAscii}
 use Rattle.std.proofs.lemmas.Bool.Decides.{nat_tests}
@@ -8,12 +8,11 @@ use Rattle.std.proofs.lemmas.Slice.Eq.{bytes_eq-Decides}
 use Rattle.std.proofs.lemmas.Str.Ascii.{IsAscii-nil, IsAscii-cons}
 use Rattle.tht_tree.specs.declared.plain.Spot.{Spot}
 use Rattle.tht_tree.specs.declared.token.TokenKind.{TokenKind}
-use Rattle.tht_tree.specs.Values.{number_limit}
 use Rattle.tht_tree.specs.Tokens.{Tok}
-use Rattle.tht_tree.specs.Splitting.{Class, blank, hash, letter, digit, other, class_of, in_word, in_number, in_comment, number_of, word_kind, kind_in, two_byte_symbols, one_byte_symbols, pair_at, single_of, after, token_at, Split, prepend}
+use Rattle.tht_tree.specs.Splitting.{Class, blank, hash, letter, digit, other, class_of, in_word, in_number, in_comment, kind_in, two_byte_symbols, one_byte_symbols, pair_at, single_of, after, token_at, Split, prepend}
 use Rattle.tht_grammar.specs.Pieces as pieces
 use Rattle.tht_grammar.specs.Pieces.{Piece, gap, token, fault, piece, split_from, word_run, number_run, comment_run, size, made, after_all}
-use Rattle.tht_grammar.proofs.Loops.{left_true, right_true}
+use Rattle.tht_grammar.proofs.Bools.{left_true, right_true}
 use Rattle.tht_grammar.proofs.Splits.{split_gap, split_token}
 
 -- ---- the piece lies within the bytes

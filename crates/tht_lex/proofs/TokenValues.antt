@@ -8,7 +8,7 @@ use Rattle.tht_tree.specs.Values.{number_limit}
 use Rattle.tht_tree.specs.Splitting.{Class, blank, hash, letter, digit, other, class_of, number_of, kind_in, or_name, word_kind, reserved, two_byte_symbols, one_byte_symbols, pair_at, single_of}
 use Rattle.tht_grammar.specs.Pieces as pieces
 use Rattle.tht_grammar.specs.Pieces.{Piece, gap, token, fault, piece, word_run, number_run}
-use Rattle.tht_grammar.proofs.Loops.{left_true, right_true}
+use Rattle.tht_grammar.proofs.Bools.{left_true, right_true}
 use Rattle.tht_lex.specs.Tokens.{value_of}
 
 -- ---- a word or a symbol has the value 0

@@ -12,9 +12,9 @@ use crate::token::Token;
 use std::alloc::{AllocError, Global};
 use tht_tree::plain::Spot;
 
-/// The spot after some bytes.
+/// The spot after some bytes that begin at this spot: a line feed begins a new line, any other byte is one column.
 #[tactic(auto, unfolding(tht_grammar::specs::Pieces::after_all))]
-fn spot_after(spot: Spot, text: &[u8]) -> Spot
+pub fn spot_after(spot: Spot, text: &[u8]) -> Spot
     requires lines_fit { spot.line + length text.now < 2 ^ 32 }
     requires columns_fit { spot.column + length text.now < 2 ^ 32 }
     ensures value { result ≡ after_all spot text.now }

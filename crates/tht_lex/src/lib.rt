@@ -14,7 +14,7 @@ mod words;
 
 pub use end::LexEnd;
 pub use laws::one_split;
-pub use lexer::lex;
+pub use lexer::{lex, spot_after};
 pub use token::Token;
 
 #[cfg(test)]

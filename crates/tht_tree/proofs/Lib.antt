@@ -10,5 +10,9 @@ pub mod Local
 pub mod Moves
 pub mod Runs
 pub mod TermFolds
+pub mod AssnFolds
+pub mod UnbuiltTerms
 pub mod TermValues
 pub mod SameTerm
+pub mod Rows
+pub mod OneLevel

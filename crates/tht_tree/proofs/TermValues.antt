@@ -1,7 +1,9 @@
 -- What the sort of a term says of its values.
-use Rattle.std.proofs.Common.{◌≡◌, ℕ, Bool, true, false, ◌&&◌, cond, List, [], Option, Some, None, refl, sym, ◌∙◌, ap, subst}
+use Rattle.std.proofs.Common.{◌≡◌, ℕ, Bool, true, false, cond, List, [], Option, Some, None, refl, sym, ◌∙◌, ap, subst}
 use Rattle.tht_tree.specs.declared.term.Term.{Term}
 use Rattle.tht_tree.specs.declared.term.Term.TheVariants as t
+use Rattle.tht_tree.specs.declared.term.Term.TheOpen.{Term-F}
+use Rattle.tht_tree.specs.declared.term.Term.TheOpen as f
 use Rattle.tht_tree.specs.declared.plain.Sort.{Sort}
 use Rattle.tht_tree.specs.declared.plain.Sort.TheVariants as sort
 use Rattle.tht_tree.specs.declared.plain.Value.{Value}
@@ -15,6 +17,7 @@ use Rattle.tht_tree.specs.Satisfaction.{HasSorts}
 use Rattle.tht_tree.specs.Rules.Context.{Scope}
 use Rattle.tht_tree.specs.Rules.Scoping.{same_sort, variable_sort, sum_sort, equation_sort, sort_at, sort_of}
 use Rattle.tht_tree.proofs.TermFolds.{Add, Eq, Add-is, Eq-is, at-Num, at-Unit, at-Var, at-Add, at-Eq}
+use Rattle.tht_tree.proofs.UnbuiltTerms.{is_built, is_built_level, unbuilt}
 
 -- ---- sorts of the parts
 
@@ -45,6 +48,23 @@ equation_parts (Some r) (Some q) s e = let h = if_bool (same_sort r q) s e in (r
 sort-Eq : (scope : Scope) (a b : Term) (s : Sort) → sort_of scope (Eq a b) ≡ Some s →
     (r : Sort) × (q : Sort) × (sort_of scope a ≡ Some r) × (sort_of scope b ≡ Some q) × (same_sort r q ≡ true) × (s ≡ sort.Bool)
 sort-Eq scope a b s e = equation_parts (sort_of scope a) (sort_of scope b) s (sym (ap (sort_of scope) (sym (Eq-is a b)) ∙ at-Eq (Option Sort) (sort_at scope) a b) ∙ e)
+
+-- ---- forms that are not built
+
+none_at : (scope : Scope) (x : Term-F (Option Sort)) → is_built_level x ≡ false → sort_at scope x ≡ None
+none_at scope (f.Num n) e = cc
+none_at scope f.Unit e = cc
+none_at scope (f.Var x) e = cc
+none_at scope (f.Add a b) e = cc
+none_at scope (f.Eq a b) e = cc
+none_at scope _ e = refl
+
+none_some : (o : Option Sort) (s : Sort) → o ≡ None → o ≡ Some s → ⊥
+none_some o s e f = let g = sym e ∙ f in cc
+
+-- a term whose outermost form is not built has no sort
+no_sort : (scope : Scope) (a : Term) (s : Sort) → is_built a ≡ false → sort_of scope a ≡ Some s → ⊥
+no_sort scope a s e h = none_some (sort_of scope a) s (unbuilt (Option Sort) (sort_at scope) None (none_at scope) a e) h
 
 -- ---- values of the parts
 
@@ -83,6 +103,7 @@ module _ (scope : Scope) (e : Env) (vs : List Val) (xs : Names) (d : Env) (ws : 
       let left = same_value_of a parts.0 parts.2 in
       let right = same_value_of b parts.1 parts.3 in
       trm-Eq xs a b e vs ∙ (λ i. apply eq (left i) (right i)) ∙ sym (trm-Eq ys a b d ws)
+  same_value_of a s h = absurd (no_sort scope a s refl h)
 
 of_sort : (s r : Sort) (w : Value) → s ≡ r → has_sort r w ≡ true → has_sort s w ≡ true
 of_sort s r w e h = subst (λ z. has_sort z w ≡ true) (sym e) h
@@ -107,6 +128,7 @@ value_of_sort scope e sorts (Add a b) s h =
 value_of_sort scope e sorts (Eq a b) s h =
     let w = value_in (apply eq (value_of e [] (trm [] a)) (value_of e [] (trm [] b))) in
     (w, trm-Eq [] a b e [], of_sort s sort.Bool w (sort-Eq scope a b s h).5 refl)
+value_of_sort scope e sorts a s h = absurd (no_sort scope a s refl h)
 
 -- ---- more names in scope
 
@@ -131,9 +153,4 @@ module _ (old new : Scope) (extends : Extends old new) where
       let right = sort_of-Extends b parts.1 parts.3 in
       ap (sort_of new) (sym (Eq-is a b)) ∙ at-Eq (Option Sort) (sort_at new) a b ∙ (λ i. equation_sort (left i) (right i))
       ∙ ap (λ c. cond c (Some sort.Bool) None) parts.4 ∙ ap Some (sym parts.5)
-
--- ---- the same tree
-
-and_both : (a b : Bool) → (a && b) ≡ true → (a ≡ true) × (b ≡ true)
-and_both true b e = (refl, e)
-and_both false b e = cc
+  sort_of-Extends a s h = absurd (no_sort old a s refl h)

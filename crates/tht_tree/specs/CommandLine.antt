@@ -1,5 +1,5 @@
 -- What the program answers to its words and its input on one worker, and what it then has done.
-use Rattle.std.specs.Prelude.{◌≡◌, ℕ, Bool, true, false, ◌<◌, ◌≤◌, ◌&&◌, bytes_eq, List, [], ◌∷◌, length, codes, take, Option, None, Some, if◌then◌else◌, ⊤}
+use Rattle.std.specs.Prelude.{◌≡◌, ◌⊎◌, ℕ, Bool, true, false, ◌<◌, ◌≤◌, ◌&&◌, bytes_eq, List, [], ◌∷◌, length, codes, take, Option, None, Some, if◌then◌else◌, ⊤}
 use Rattle.std.specs.Io.KnownBytes.{Appends, Keeps}
 use Rattle.tht_tree.specs.declared.file.Source1.{Source1}
 use Rattle.tht_tree.specs.declared.run.End.{End}
@@ -9,12 +9,21 @@ use Rattle.tht_tree.specs.declared.status.Status.TheVariants.{Done, Words, ReadF
 use Rattle.tht_tree.specs.declared.command.Command.{Command}
 use Rattle.tht_tree.specs.declared.command.Command.TheVariants.{Read}
 use Rattle.tht_tree.specs.declared.command.Reader.{Reader}
-use Rattle.tht_tree.specs.declared.command.Reader.TheVariants.{Run}
-use Rattle.tht_tree.specs.Rules.Files.{IsAccepted, rules_hold}
-use Rattle.tht_tree.specs.Spelling.{IsSpelled, IsSource, IsNoSource}
+use Rattle.tht_tree.specs.declared.command.Reader.TheVariants.{Run, Print}
+use Rattle.tht_tree.specs.Rules.Files.{IsSource, IsAccepted, rules_hold}
+use Rattle.tht_tree.specs.declared.plain.Spot.{Spot}
+use Rattle.tht_tree.specs.declared.text_fault.TextFault.{TextFault}
+use Rattle.tht_tree.specs.declared.text_fault.TextFault.TheVariants as f
+use Rattle.tht_tree.specs.declared.token.TokenKind.{TokenKind}
+use Rattle.tht_tree.specs.Tokens as token
+use Rattle.tht_tree.specs.Splitting as split
+use Rattle.tht_tree.specs.Faults as fault
+use Rattle.tht_tree.specs.Spelling.{IsSpelled, FaultsInSplitting, FaultsInSpelling}
+use Rattle.tht_tree.specs.Layout.{layout}
+use Rattle.tht_tree.specs.Rules.Scoping.{is_well_sorted}
 use Rattle.tht_tree.specs.Runs.{State, start_of, run_of, cost_of, Ends, GoesLowest}
 use Rattle.tht_tree.specs.Soundness.{IsSound}
-use Rattle.tht_tree.specs.Texts.{report_text, root_names}
+use Rattle.tht_tree.specs.Texts.{fault_text, report_text, root_names}
 
 -- ---- statuses
 
@@ -41,6 +50,7 @@ status_of (end.Big b) = Big
 
 -- the command that the words ask for, or nothing where they are refused
 abbrev pub asked : List (List ℕ) → Option Command
+asked (command ∷ []) = if bytes_eq command (codes "print") then Some (Read Print) else None
 asked (command ∷ option ∷ workers ∷ []) =
     if bytes_eq command (codes "run") && bytes_eq option (codes "--workers") && bytes_eq workers (codes "1")
     then Some (Read Run) else None
@@ -66,17 +76,56 @@ pub record Reports (file : Source1) (status : Status) (output : List ℕ) : Type
   pub status_is : status ≡ status_of end
   pub output_is : output ≡ report_text (root_names file) end (cost_of budget last) 0 order
 
+-- What a command takes as its input: the bytes spell the file, and for `run` its names and sorts are in order and all of its
+-- forms are built.
+abbrev pub Takes : Reader → List ℕ → Source1 → Type 0
+Takes Run input file = IsSource input file
+Takes Print input file = IsSpelled file input
+
+abbrev pub TakesNone : List ℕ → Reader → Type 0
+TakesNone input reader = (file : Source1) → Takes reader input file → ⊥
+
 -- what a command answers to a file that it has read, by the status
 abbrev pub Accepts : Reader → Source1 → Status → List ℕ → Type 0
+Accepts Print file Done output = output ≡ layout file
+Accepts Print file status output = ⊥
 Accepts Run file Rule output = (rules_hold file ≡ false) × (output ≡ codes "rule\n")
 Accepts Run file status output = IsAccepted file × Reports file status output
 
--- What a command that reads a source answers to its input, by the status. Refusals come in this order: too long, no
--- source, a rule; then the run's end.
+-- the first fault of the input stands at this spot
+abbrev pub IsFirstFault : List ℕ → TextFault → Spot → Type 0
+IsFirstFault input f.Byte spot = FaultsInSplitting input split.bad_byte spot
+IsFirstFault input f.LongName spot = FaultsInSplitting input split.long_name spot
+IsFirstFault input f.BigNumber spot = FaultsInSplitting input split.big_number spot
+IsFirstFault input f.Unexpected spot = (found : Option TokenKind) × FaultsInSpelling input fault.unexpected spot found
+IsFirstFault input f.Deep spot = (found : Option TokenKind) × FaultsInSpelling input (fault.over token.deep) spot found
+IsFirstFault input f.Many spot = (found : Option TokenKind) × FaultsInSpelling input (fault.over token.many) spot found
+IsFirstFault input f.Version spot = (found : Option TokenKind) × FaultsInSpelling input (fault.over token.version) spot found
+
+-- the output is the line of the first fault of the input
+pub record SaysFault (input output : List ℕ) : Type 0 where
+  pub fault : TextFault
+  pub spot : Spot
+  pub first : IsFirstFault input fault spot
+  pub line : output ≡ fault_text fault spot
+
+-- the input spells a file that no command but `print` takes yet: a form of it is not built, or a name or a sort is not in order
+pub record SaysLater (input output : List ℕ) : Type 0 where
+  pub file : Source1
+  pub spelled : IsSpelled file input
+  pub later : is_well_sorted file ≡ false
+  pub line : output ≡ codes "text later\n"
+
+abbrev pub RefusesText : Reader → List ℕ → List ℕ → Type 0
+RefusesText Run input output = SaysFault input output ⊎ SaysLater input output
+RefusesText Print input output = SaysFault input output
+
+-- What a command that reads a source answers to its input, by the status. Refusals come in this order: too long, the first
+-- fault of the text, forms that are not built, a rule; then the run's end.
 abbrev pub FileAnswers : Reader → List ℕ → Status → List ℕ → Type 0
 FileAnswers reader input TooLong output = (input_limit < length input) × (output ≡ codes "too long\n")
-FileAnswers reader input Text output = (length input ≤ input_limit) × IsNoSource input × (output ≡ codes "text\n")
-FileAnswers reader input status output = (file : Source1) × (length input ≤ input_limit) × IsSource input file × Accepts reader file status output
+FileAnswers reader input Text output = (length input ≤ input_limit) × RefusesText reader input output
+FileAnswers reader input status output = (file : Source1) × (length input ≤ input_limit) × Takes reader input file × Accepts reader file status output
 
 -- the one answer to the words and the input
 abbrev pub Answers : Option Command → List ℕ → Status → List ℕ → Type 0

@@ -3,6 +3,8 @@ pub mod Values
 pub mod Syntax
 pub mod Terms
 pub mod SameTree
+pub mod WithoutSpots
+pub mod Levels
 pub mod Heaps
 pub mod Satisfaction
 pub mod Machine
@@ -10,8 +12,11 @@ pub mod Runs
 pub mod Soundness
 pub mod Tokens
 pub mod Splitting
+pub mod Productions
 pub mod Grammar
+pub mod Faults
 pub mod Spelling
+pub mod Layout
 pub mod Rules
 pub mod Bodies
 pub mod Texts

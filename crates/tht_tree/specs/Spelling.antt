@@ -1,10 +1,12 @@
--- Which bytes spell which file.
-use Rattle.std.specs.Prelude.{◌≡◌, true, ℕ, List, [], Ok}
+-- Which bytes spell which file, and where those that spell none are at fault.
+use Rattle.std.specs.Prelude.{◌≡◌, ℕ, List, [], Option, Ok, Err}
+use Rattle.tht_tree.specs.declared.plain.Spot.{Spot}
+use Rattle.tht_tree.specs.declared.token.TokenKind.{TokenKind}
 use Rattle.tht_tree.specs.declared.file.Source1.{Source1}
-use Rattle.tht_tree.specs.Tokens.{Tok}
-use Rattle.tht_tree.specs.Splitting.{Splits, start_spot}
+use Rattle.tht_tree.specs.Tokens.{Tok, first_kind}
+use Rattle.tht_tree.specs.Splitting.{Splits, start_spot, LexFault}
 use Rattle.tht_tree.specs.Grammar.{SpellsFile}
-use Rattle.tht_tree.specs.Rules.Scoping.{is_well_sorted}
+use Rattle.tht_tree.specs.Faults.{Fault, IsFault, spot_in}
 
 -- the bytes split into tokens that spell the file, up to their end
 pub record IsSpelled (file : Source1) (bytes : List ℕ) : Type 0 where
@@ -12,11 +14,15 @@ pub record IsSpelled (file : Source1) (bytes : List ℕ) : Type 0 where
   pub split : Splits start_spot bytes (Ok tokens)
   pub spelled : SpellsFile tokens file []
 
--- the bytes spell a file, and its names and sorts are in order
-pub record IsSource (bytes : List ℕ) (file : Source1) : Type 0 where
-  pub spelled : IsSpelled file bytes
-  pub sorted : is_well_sorted file ≡ true
+-- the first fault of the bytes is that they do not split into tokens, at this spot
+abbrev pub FaultsInSplitting : List ℕ → LexFault → Spot → Type 0
+FaultsInSplitting bytes f spot = Splits start_spot bytes (Err (f, spot))
 
--- no file whose names and sorts are in order is spelled by the bytes
-abbrev pub IsNoSource : List ℕ → Type 0
-IsNoSource bytes = (file : Source1) → IsSource bytes file → ⊥
+-- the bytes split into tokens, whose first fault stands at this spot, at a token of this kind or at the end
+pub record FaultsInSpelling (bytes : List ℕ) (f : Fault) (spot : Spot) (found : Option TokenKind) : Type 0 where
+  pub tokens : List Tok
+  pub left : List Tok
+  pub split : Splits start_spot bytes (Ok tokens)
+  pub fault : IsFault SpellsFile tokens f left
+  pub spot_is : spot ≡ spot_in bytes left
+  pub found_is : found ≡ first_kind left

@@ -148,7 +148,7 @@ pub data Splits : Spot → List ℕ → Split → Type 0 where
       → Splits p (b ∷ i) (prepend (token_at (word_kind (b ∷ w)) p (b ∷ w) 0) s)
   too_long : {p q : Spot} {b : ℕ} {i j w : List ℕ} → class_of b ≡ letter → Run in_word (after p b) i w q j → 64 < length (b ∷ w)
       → Splits p (b ∷ i) (Err (long_name, p))
-  -- so is a number below 2^64
+  -- a number below 2^64 is a token, and a greater one a fault at its first byte
   a_number : {p q : Spot} {b : ℕ} {i j w : List ℕ} {s : Split} → class_of b ≡ digit → Run in_number (after p b) i w q j → number_of (b ∷ w) < number_limit → Splits q j s
       → Splits p (b ∷ i) (prepend (token_at k.Num p (b ∷ w) (number_of (b ∷ w))) s)
   too_big : {p q : Spot} {b : ℕ} {i j w : List ℕ} → class_of b ≡ digit → Run in_number (after p b) i w q j → number_limit ≤ number_of (b ∷ w)

@@ -1,5 +1,6 @@
 -- Terms, assertions and programs with bound variables by position: which names an author gave them is gone, and so are
--- proofs, gives, postconditions and the numbers of atoms.
+-- proofs, gives, postconditions and the numbers of atoms. Terms, assertions, statements and ends that are not named here are
+-- not built yet, and no file with one is accepted: such a term is (), and such a statement frees what is no cell, a fault.
 use Rattle.std.specs.Prelude.{ℕ, suc, bytes_eq, List, [], ◌∷◌, Option, Some, None, if◌then◌else◌}
 use Rattle.tht_tree.specs.declared.plain.Sort.{Sort}
 use Rattle.tht_tree.specs.declared.plain.Value.TheVariants as v
@@ -7,7 +8,7 @@ use Rattle.tht_tree.specs.declared.term.Term.{Term, fold-Term}
 use Rattle.tht_tree.specs.declared.term.Term.TheOpen as t
 use Rattle.tht_tree.specs.declared.assn.Assn.{Assn}
 use Rattle.tht_tree.specs.declared.assn.Assn.TheVariants as a
-use Rattle.tht_tree.specs.declared.body.Body.{Body}
+use Rattle.tht_tree.specs.declared.body.Body.{Body, out-Body}
 use Rattle.tht_tree.specs.declared.body.Stmt.{Stmt}
 use Rattle.tht_tree.specs.declared.body.StmtKind.{StmtKind}
 use Rattle.tht_tree.specs.declared.body.StmtKind.TheVariants as s
@@ -58,6 +59,7 @@ trm_at xs t.Unit = lit (is v.Unit)
 trm_at xs (t.Var x) = named x (position 0 xs x)
 trm_at xs (t.Add a b) = op add a b
 trm_at xs (t.Eq a b) = op eq a b
+trm_at xs _ = lit (is v.Unit)
 
 -- the term, where these names are bound
 abbrev pub trm : Names → Term → Trm
@@ -66,13 +68,15 @@ trm xs = fold-Term Trm (trm_at xs)
 abbrev pub asn : Names → Assn → Asn
 asn xs a.Emp = emp
 asn xs (a.Own t u) = own (trm xs t) (trm xs u)
+asn xs _ = emp
 
 -- a statement and what follows it, where these names are bound
 abbrev pub stmt_code : StmtKind → Names → (Names → Code) → Code
 stmt_code (s.Read x sort t i h p) xs next = read sort (trm xs t) (next (x ∷ xs))
 stmt_code (s.Write t u i p) xs next = write (trm xs t) (trm xs u) (next xs)
-stmt_code (s.Alloc x t) xs next = alloc (trm xs t ∷ []) (next (x ∷ xs))
+stmt_code (s.Alloc x (t ∷ [])) xs next = alloc (trm xs t ∷ []) (next (x ∷ xs))
 stmt_code (s.Free t i p) xs next = drop (trm xs t) (next xs)
+stmt_code _ xs next = drop (lit (is v.Unit)) (next xs)
 
 abbrev pub stmts_code : List Stmt → (Names → Code) → Names → Code
 stmts_code [] last xs = last xs
@@ -80,7 +84,15 @@ stmts_code (s ∷ ss) last xs = stmt_code s.kind xs (stmts_code ss last)
 
 abbrev pub end_code : EndKind → Names → Code
 end_code (e.Ret t g) xs = ret (trm xs t)
+end_code _ xs = ret (lit (is v.Unit))
+
+-- the statements of a body, and its end
+abbrev pub stmts_of : Body → List Stmt
+stmts_of body = (out-Body body).stmts
+
+abbrev pub end_of : Body → EndKind
+end_of body = (out-Body body).end.kind
 
 -- the program of a body
 abbrev pub code : Body → Names → Code
-code body xs = stmts_code body.stmts (end_code body.end.kind) xs
+code body xs = stmts_code (stmts_of body) (end_code (end_of body)) xs

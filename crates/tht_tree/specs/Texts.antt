@@ -1,6 +1,9 @@
 -- What the program prints of a run.
 use Rattle.std.specs.Prelude.{ℕ, ◌+◌, ◌==◌, Bool, true, false, ◌||◌, List, [], ◌∷◌, ◌++◌, length, slice_get, unwrap_or, codes, if◌then◌else◌}
 use Rattle.std.specs.Fmt.{decimal}
+use Rattle.tht_tree.specs.declared.plain.Spot.{Spot}
+use Rattle.tht_tree.specs.declared.text_fault.TextFault.{TextFault}
+use Rattle.tht_tree.specs.declared.text_fault.TextFault.TheVariants as f
 use Rattle.tht_tree.specs.declared.plain.Place.{Place}
 use Rattle.tht_tree.specs.declared.plain.Place.TheVariants.{Null, Root, Cell}
 use Rattle.tht_tree.specs.declared.plain.Value.{Value}
@@ -27,6 +30,21 @@ value_text roots (v.Nat n) = decimal n
 value_text roots (v.Bool b) = bool_text b
 value_text roots (v.Loc p) = place_text roots p
 value_text roots v.Unit = codes "()"
+
+-- ---- the first fault of a text
+
+abbrev pub fault_word : TextFault → List ℕ
+fault_word f.Byte = codes "byte"
+fault_word f.LongName = codes "longname"
+fault_word f.BigNumber = codes "bignumber"
+fault_word f.Unexpected = codes "unexpected"
+fault_word f.Deep = codes "deep"
+fault_word f.Many = codes "many"
+fault_word f.Version = codes "version"
+
+-- a fault and where it stands
+abbrev pub fault_text : TextFault → Spot → List ℕ
+fault_text fault spot = codes "text " ++ (decimal spot.line ++ (codes ":" ++ (decimal spot.column ++ (codes " " ++ (fault_word fault ++ codes "\n")))))
 
 -- ---- the end of a run
 

@@ -26,9 +26,10 @@ has_sort sort.Loc (v.Loc p) = true
 has_sort sort.Unit v.Unit = true
 has_sort _ _ = false
 
--- a cell can hold the values of every sort but seq
+-- The sorts of cells and of results. No cell can hold a sequence, and bool is not built yet: it is the sort of formulas alone.
 abbrev pub is_storable : Sort → Bool
 is_storable sort.Seq = false
+is_storable sort.Bool = false
 is_storable _ = true
 
 abbrev pub same_place : Place → Place → Bool

@@ -9,5 +9,8 @@ pub enum Command {
 /// A command that reads a source.
 #[derive(Clone, Copy, Debug, PartialEq, Eq)]
 pub enum Reader {
+    /// Checks a file and runs its `main`.
     Run,
+    /// Prints a file in its layout.
+    Print,
 }

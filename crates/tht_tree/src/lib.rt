@@ -7,6 +7,7 @@
 pub mod assn;
 pub mod body;
 pub mod command;
+pub mod decl;
 pub mod file;
 pub mod give;
 pub mod plain;
@@ -14,7 +15,9 @@ pub mod proof;
 pub mod run;
 pub mod state;
 pub mod status;
+pub mod step;
 pub mod term;
 #[cfg(test)]
 mod tests;
+pub mod text_fault;
 pub mod token;

@@ -1,4 +1,5 @@
--- The rules of commands: what the checker knows after a statement, or nothing where the statement is refused.
+-- The rules of commands: what the checker knows after a statement, or nothing where the statement is refused. Proofs, gives,
+-- assertions, statements and ends that are not named here are not built yet: each is refused.
 use Rattle.std.specs.Prelude.{ℕ, ◌+◌, Bool, true, false, ◌&&◌, List, [], ◌∷◌, ◌++◌, Option, Some, None, if◌then◌else◌}
 use Rattle.tht_tree.specs.declared.plain.Sort.{Sort}
 use Rattle.tht_tree.specs.declared.plain.Sort.TheVariants as sort
@@ -18,6 +19,7 @@ use Rattle.tht_tree.specs.declared.body.EndKind.{EndKind}
 use Rattle.tht_tree.specs.declared.body.EndKind.TheVariants as e
 use Rattle.tht_tree.specs.declared.state.Local.TheVariants.{Variable, Hypothesis}
 use Rattle.tht_tree.specs.SameTree.{same_of}
+use Rattle.tht_tree.specs.Syntax.{stmts_of, end_of}
 use Rattle.tht_tree.specs.Lists.{is_nil}
 use Rattle.tht_tree.specs.Rules.Sizes.{formula_fits, assn_fits}
 use Rattle.tht_tree.specs.Rules.Context.{with_local, Context, atom_at, without_atom, with_atom, context_fits}
@@ -28,11 +30,12 @@ use Rattle.tht_tree.specs.Rules.Scoping.{sort_of, is_of}
 -- the proof proves that a equals b: `refl` where they are the same tree
 abbrev pub proves_equal : ProofKind → Term → Term → Bool
 proves_equal Refl a b = same_of a b
+proves_equal _ a b = false
 
 -- the give proves the assertion, from no atom: `emp` the empty heap
 abbrev pub gives : GiveKind → Assn → Bool
 gives Emp a.Emp = true
-gives Emp (a.Own t u) = false
+gives _ _ = false
 
 -- ---- statements
 
@@ -83,14 +86,16 @@ after_free c t i p = on_cell (atom_at i c.atoms) (λ place value.
 abbrev pub after_stmt : StmtKind → Context → Option Context
 after_stmt (s.Read x r t i h p) c = after_read c x r t i h p.kind
 after_stmt (s.Write t u i p) c = after_write c t u i p.kind
-after_stmt (s.Alloc x t) c = after_alloc c x t
+after_stmt (s.Alloc x (t ∷ [])) c = after_alloc c x t
 after_stmt (s.Free t i p) c = after_free c t i p.kind
+after_stmt _ c = None
 
 -- ---- bodies
 
 -- the end gives the postcondition, and no atom is left
 abbrev pub end_holds : EndKind → Assn → Context → Bool
 end_holds (e.Ret t g) post c = gives g.kind post && is_nil c.atoms
+end_holds _ post c = false
 
 abbrev pub on_context : Option Context → (Context → Bool) → Bool
 on_context None go = false
@@ -102,4 +107,4 @@ stmts_hold (s ∷ ss) last c = on_context (after_stmt s.kind c) (stmts_hold ss l
 
 -- the body meets this postcondition from what is known
 abbrev pub holds : Body → Assn → Context → Bool
-holds body post c = stmts_hold body.stmts (end_holds body.end.kind post) c
+holds body post c = stmts_hold (stmts_of body) (end_holds (end_of body) post) c

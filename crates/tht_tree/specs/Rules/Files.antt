@@ -1,9 +1,15 @@
--- Which files are accepted.
-use Rattle.std.specs.Prelude.{◌≡◌, true, Bool}
+-- Which bytes are a source, and which files are accepted.
+use Rattle.std.specs.Prelude.{◌≡◌, true, Bool, ℕ, List}
 use Rattle.tht_tree.specs.declared.file.Source1.{Source1}
+use Rattle.tht_tree.specs.Spelling.{IsSpelled}
 use Rattle.tht_tree.specs.Rules.Context.{no_context}
 use Rattle.tht_tree.specs.Rules.Scoping.{is_well_sorted}
 use Rattle.tht_tree.specs.Rules.Commands.{holds}
+
+-- The bytes spell a file, all of whose forms are built and whose names and sorts are in order.
+pub record IsSource (bytes : List ℕ) (file : Source1) : Type 0 where
+  pub spelled : IsSpelled file bytes
+  pub sorted : is_well_sorted file ≡ true
 
 -- main's body meets its postcondition, from no atom and with nothing known
 abbrev pub rules_hold : Source1 → Bool

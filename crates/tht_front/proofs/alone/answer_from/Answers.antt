@@ -1,4 +1,7 @@
-use Rattle.tht_front.proofs.Answering.{big, if_ok_then, refused, spent}
+use Rattle.std.proofs.Common.{◌≡◌, sym, ◌∙◌}
+use Rattle.tht_tree.specs.declared.command.Command.TheVariants.{Read}
+use Rattle.tht_grammar.proofs.Texts.{one_file}
+use Rattle.tht_front.proofs.Answering.{big, if_ok_then, not_taken, one_command, refused, spent}
 use Rattle.tht_front.proofs.alone.answer_from.Goals as goal
 
 pub returns-in-Some-Read-clause-rule : goal.returns-in-Some-Read-clause-rule
@@ -12,3 +15,12 @@ returns-in-Some-Read-clause-spent g c =
 pub returns-in-Some-Read-clause-big : goal.returns-in-Some-Read-clause-big
 returns-in-Some-Read-clause-big g c =
     if_ok_then c.answer_from_file.result _ _ (λ answer said same. big _ _ answer.status answer.output.items said same) c.answer_from_file.ensures.answer
+
+pub returns-in-Some-Read-clause-text : goal.returns-in-Some-Read-clause-text
+returns-in-Some-Read-clause-text g c =
+    if_ok_then c.answer_from_file.result _ _
+    (λ answer said reader asks same.
+    let found = sym c.read_words.ensures ∙ c.in-Some-Read.is in
+    let is : c.in-Some-Read.field-0 ≡ Read reader = one_command c.in-Some-Read.field-0 (Read reader) (sym found ∙ asks) in
+    not_taken one_file _ reader answer.status answer.output.items (rw is at said) same)
+    c.answer_from_file.ensures.answer

@@ -15,8 +15,8 @@ returns-then-not-term_has_sort-clause-refused c = λ _.
     let name = c.args.name.now in
     let hyp = c.args.hyp.now in
     let value = c.in-Some.value.now in
-    let found = finds_cell old cell.place.now cell.number cell.proof value (sym c.in-Some.ensures.value) in
-    read_is old cell.place.now cell.number cell.proof value found name c.args.sort hyp
+    let found = finds_cell old cell.place.now cell.number cell.proof.now value (sym c.in-Some.ensures.value) in
+    read_is old cell.place.now cell.number cell.proof.now value found name c.args.sort hyp
     ∙ ap (λ b. cond (b && formula_fits (Eq (Var name) value)) (if_fits (read_context old name c.args.sort hyp value)) None) (sym c.if-not-term_has_sort.ensures)
 
 pub returns-then-not-named_fits-clause-refused : goal.returns-then-not-named_fits-clause-refused
@@ -26,8 +26,8 @@ returns-then-not-named_fits-clause-refused c = λ _.
     let name = c.args.name.now in
     let hyp = c.args.hyp.now in
     let value = c.in-Some.value.now in
-    let found = finds_cell old cell.place.now cell.number cell.proof value (sym c.in-Some.ensures.value) in
-    read_is old cell.place.now cell.number cell.proof value found name c.args.sort hyp
+    let found = finds_cell old cell.place.now cell.number cell.proof.now value (sym c.in-Some.ensures.value) in
+    read_is old cell.place.now cell.number cell.proof.now value found name c.args.sort hyp
     ∙ sym (λ i. cond (c.if-not-term_has_sort.ensures i && c.if-not-named_fits.ensures.equation name i) (if_fits (read_context old name c.args.sort hyp value)) None)
 
 pub returns-then-not-context_is_within-clause-refused : goal.returns-then-not-context_is_within-clause-refused
@@ -39,12 +39,12 @@ returns-then-not-context_is_within-clause-refused c = λ _.
     let hyp = c.args.hyp.now in
     let value = c.in-Some.value.now in
     let new = read_context old name c.args.sort hyp value in
-    let found = finds_cell old cell.place.now cell.number cell.proof value (sym c.in-Some.ensures.value) in
+    let found = finds_cell old cell.place.now cell.number cell.proof.now value (sym c.in-Some.ensures.value) in
     let nodes = c.saturating_add-nodes.result in
     let left =
     more_left new (context_nodes old) me.nodes c.named_size.result nodes value (read_size old name c.args.sort hyp value) me.counted c.named_size.ensures
     c.saturating_add-nodes.ensures in
-    read_is old cell.place.now cell.number cell.proof value found name c.args.sort hyp
+    read_is old cell.place.now cell.number cell.proof.now value found name c.args.sort hyp
     ∙ sym (λ i. cond (c.if-not-term_has_sort.ensures i && c.if-not-named_fits.ensures.equation name i) (if_fits new) None)
     ∙ too_large new nodes left c.if-not-context_is_within.ensures
 
@@ -74,14 +74,14 @@ returns-clause-ok c =
     let hyp = c.args.hyp.now in
     let value = c.in-Some.value.now in
     let new = read_context old name c.args.sort hyp value in
-    let found = finds_cell old cell.place.now cell.number cell.proof value (sym c.in-Some.ensures.value) in
+    let found = finds_cell old cell.place.now cell.number cell.proof.now value (sym c.in-Some.ensures.value) in
     let nodes = c.saturating_add-nodes.result in
     let left =
     more_left new (context_nodes old) me.nodes c.named_size.result nodes value (read_size old name c.args.sort hyp value) me.counted c.named_size.ensures
     c.saturating_add-nodes.ensures in
     let below : me.state.made < 2 ^ 32 = omega arith in
     let scope = ap (λ s. with_local s hyp Hypothesis) (sym c.in_ok-bind.ensures) ∙ sym c.in_ok-bind-2.ensures in
-    read_is old cell.place.now cell.number cell.proof value found name c.args.sort hyp
+    read_is old cell.place.now cell.number cell.proof.now value found name c.args.sort hyp
     ∙ sym (λ i. cond (c.if-not-term_has_sort.ensures i && c.if-not-named_fits.ensures.equation name i) (if_fits new) None)
     ∙ not_too_large new nodes left below c.if-not-context_is_within.ensures
     ∙ ap Some (same_context scope (sym c.in_ok-add_equation.ensures.ok) refl refl)

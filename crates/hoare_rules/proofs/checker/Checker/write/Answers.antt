@@ -12,8 +12,8 @@ returns-then-not-pair_fits-clause-refused c = λ _.
     let cell = c.args.cell in
     let was = c.in-Some.was.now in
     let value = c.args.value.now in
-    let found = finds_cell old cell.place.now cell.number cell.proof was (sym c.in-Some.ensures.value) in
-    write_is old cell.place.now cell.number cell.proof was found value
+    let found = finds_cell old cell.place.now cell.number cell.proof.now was (sym c.in-Some.ensures.value) in
+    write_is old cell.place.now cell.number cell.proof.now was found value
     ∙ ap (λ b. cond b (if_fits (write_context old cell.number cell.place.now value)) None) (sym c.if-not-pair_fits.ensures.cell)
 
 pub overflow_sub-self : goal.overflow_sub-self
@@ -22,8 +22,8 @@ overflow_sub-self c =
     let old = context_of me.state in
     let cell = c.args.cell in
     let was = c.in-Some.was.now in
-    let found = finds_cell old cell.place.now cell.number cell.proof was (sym c.in-Some.ensures.value) in
-    value_within old cell.place.now cell.number cell.proof was found me.nodes c.term_size.result me.counted c.term_size.ensures
+    let found = finds_cell old cell.place.now cell.number cell.proof.now was (sym c.in-Some.ensures.value) in
+    value_within old cell.place.now cell.number cell.proof.now was found me.nodes c.term_size.result me.counted c.term_size.ensures
 
 pub returns-then-not-context_is_within-clause-refused : goal.returns-then-not-context_is_within-clause-refused
 returns-then-not-context_is_within-clause-refused c = λ _.
@@ -32,12 +32,12 @@ returns-then-not-context_is_within-clause-refused c = λ _.
     let cell = c.args.cell in
     let was = c.in-Some.was.now in
     let value = c.args.value.now in
-    let found = finds_cell old cell.place.now cell.number cell.proof was (sym c.in-Some.ensures.value) in
+    let found = finds_cell old cell.place.now cell.number cell.proof.now was (sym c.in-Some.ensures.value) in
     let nodes = c.saturating_add-nodes.result in
     let left =
-    write_left old cell.place.now cell.number cell.proof was found value c.requires.ascending me.nodes c.term_size.result c.term_size-2.result nodes
+    write_left old cell.place.now cell.number cell.proof.now was found value c.requires.ascending me.nodes c.term_size.result c.term_size-2.result nodes
     me.counted me.in_range c.term_size.ensures c.term_size-2.ensures c.saturating_add-nodes.ensures in
-    write_is old cell.place.now cell.number cell.proof was found value
+    write_is old cell.place.now cell.number cell.proof.now was found value
     ∙ ap (λ b. cond b (if_fits (write_context old cell.number cell.place.now value)) None) (sym c.if-not-pair_fits.ensures.cell)
     ∙ too_large (write_context old cell.number cell.place.now value) nodes left c.if-not-context_is_within.ensures
 
@@ -48,13 +48,13 @@ invariant_of-self c =
     let cell = c.args.cell in
     let was = c.in-Some.was.now in
     let value = c.args.value.now in
-    let found = finds_cell old cell.place.now cell.number cell.proof was (sym c.in-Some.ensures.value) in
+    let found = finds_cell old cell.place.now cell.number cell.proof.now was (sym c.in-Some.ensures.value) in
     let nodes = c.saturating_add-nodes.result in
     let left =
-    write_left old cell.place.now cell.number cell.proof was found value c.requires.ascending me.nodes c.term_size.result c.term_size-2.result nodes
+    write_left old cell.place.now cell.number cell.proof.now was found value c.requires.ascending me.nodes c.term_size.result c.term_size-2.result nodes
     me.counted me.in_range c.term_size.ensures c.term_size-2.ensures c.saturating_add-nodes.ensures in
     let new : c.set_cell_value.new.atoms.entries ≡ with_atom cell.number (Own cell.place.now value) me.state.atoms.entries =
-    c.set_cell_value.ensures cell.place.now was found.at ∙ ap (λ t. with_atom cell.number (Own cell.place.now t) me.state.atoms.entries) c.in_ok-value.ensures in
+    c.set_cell_value.ensures cell.place.now was found.at ∙ ap (λ t. with_atom cell.number (Own cell.place.now t) me.state.atoms.entries) (c.in_ok-value-2.ensures ∙ c.in_ok-value.ensures) in
     record {
       counted = is_counted (write_context old cell.number cell.place.now value) nodes left c.if-not-context_is_within.ensures ∙ ap (λ es. context_nodes (record old { atoms = es })) (sym new);
       in_range = omega (arith, left);
@@ -67,15 +67,15 @@ returns-clause-ok c =
     let cell = c.args.cell in
     let was = c.in-Some.was.now in
     let value = c.args.value.now in
-    let found = finds_cell old cell.place.now cell.number cell.proof was (sym c.in-Some.ensures.value) in
+    let found = finds_cell old cell.place.now cell.number cell.proof.now was (sym c.in-Some.ensures.value) in
     let nodes = c.saturating_add-nodes.result in
     let left =
-    write_left old cell.place.now cell.number cell.proof was found value c.requires.ascending me.nodes c.term_size.result c.term_size-2.result nodes
+    write_left old cell.place.now cell.number cell.proof.now was found value c.requires.ascending me.nodes c.term_size.result c.term_size-2.result nodes
     me.counted me.in_range c.term_size.ensures c.term_size-2.ensures c.saturating_add-nodes.ensures in
     let new : c.set_cell_value.new.atoms.entries ≡ with_atom cell.number (Own cell.place.now value) me.state.atoms.entries =
-    c.set_cell_value.ensures cell.place.now was found.at ∙ ap (λ t. with_atom cell.number (Own cell.place.now t) me.state.atoms.entries) c.in_ok-value.ensures in
+    c.set_cell_value.ensures cell.place.now was found.at ∙ ap (λ t. with_atom cell.number (Own cell.place.now t) me.state.atoms.entries) (c.in_ok-value-2.ensures ∙ c.in_ok-value.ensures) in
     let below : me.state.made < 2 ^ 32 = omega arith in
-    write_is old cell.place.now cell.number cell.proof was found value
+    write_is old cell.place.now cell.number cell.proof.now was found value
     ∙ ap (λ b. cond b (if_fits (write_context old cell.number cell.place.now value)) None) (sym c.if-not-pair_fits.ensures.cell)
     ∙ not_too_large (write_context old cell.number cell.place.now value) nodes left below c.if-not-context_is_within.ensures
     ∙ ap (λ es. Some (record old { atoms = es })) (sym new)

@@ -1,0 +1,4 @@
+pub mod Columns
+pub mod Fronts
+pub mod Sums
+pub mod Sound

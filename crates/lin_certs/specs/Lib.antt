@@ -1,0 +1,3 @@
+pub mod LinForm
+pub mod Columns
+pub mod LinSaid

@@ -1,4 +1,0 @@
-use Rattle.tht_front.proofs.parse.inner.+proof.Given as goal
-
-abbrev pub decreases-proof : goal.decreases-proof
-decreases-proof l = l.depth

@@ -1,3 +1,0 @@
--- How the private contracts of the parser see its values.
-pub mod Tokens
-pub mod Readings

@@ -1,0 +1,2 @@
+//! What is printed spells the same file.
+#![tactic(auto)]

@@ -1,0 +1,12 @@
+pub mod Readings
+pub mod Nesting
+pub mod Joins
+pub mod Levels
+pub mod Forms
+pub mod Gives
+pub mod Statements
+pub mod Bodies
+pub mod Roots
+pub mod Lexed
+pub mod Stopping
+pub mod Ends

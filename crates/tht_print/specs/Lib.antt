@@ -1,0 +1,4 @@
+pub mod Tokens
+pub mod Chains
+pub mod Parts
+pub mod Laws
