@@ -13,13 +13,13 @@ use Rattle.hoare_rules.proofs.AtomLists.{Atoms, order, below, same, above, IsAbo
 
 module _ (env : Env) where
   abbrev pub Holds : Assn → Heap → Type 0
-  Holds a h = Satisfies env [] (asn [] a) h
+  Holds a h = Satisfies env [] (asn [] [] a) h
 
   -- one atom's heap, beside the others'
   abbrev TakenOut : Atoms → Atoms → Assn → Heap → Type 0
-  TakenOut atoms rest a h = (x d : Heap) × Joins x d h × Holds a x × AtomsHold env rest d
+  TakenOut atoms rest a h = (x d : Heap) × Joins x d h × Holds a x × AtomsHold [] env rest d
 
-  pub taken_out : (atoms : Atoms) (i : ℕ) (a : Assn) (h : Heap) → atom_at i atoms ≡ Some a → AtomsHold env atoms h → TakenOut atoms (without_atom i atoms) a h
+  pub taken_out : (atoms : Atoms) (i : ℕ) (a : Assn) (h : Heap) → atom_at i atoms ≡ Some a → AtomsHold [] env atoms h → TakenOut atoms (without_atom i atoms) a h
   taken_out [] i a h e w = cc
   taken_out (e ∷ es) i a h at w = pick (is_eq (nat_cmp i e.0)) (λ f. taken_out es i a w.1 f w.4) at
     where
@@ -31,28 +31,28 @@ module _ (env : Env) where
           (r.0, z.0, z.2, r.3, (w.0, r.1, Joins-swap z.1, w.3, r.4))
 
   -- a heap of the atom beside the others' is a heap of all
-  pub put_back : (atoms : Atoms) (i : ℕ) (a : Assn) (x d h : Heap) → atom_at i atoms ≡ Some a → AtomsHold env (without_atom i atoms) d → Joins x d h → Holds a x → AtomsHold env atoms h
+  pub put_back : (atoms : Atoms) (i : ℕ) (a : Assn) (x d h : Heap) → atom_at i atoms ≡ Some a → AtomsHold [] env (without_atom i atoms) d → Joins x d h → Holds a x → AtomsHold [] env atoms h
   put_back [] i a x d h e w j s = cc
   put_back (e ∷ es) i a x d h at w j s = pick (is_eq (nat_cmp i e.0)) (λ k f y q. put_back es i a x k y f q.0 q.1 s) at w
     where
-      pick : (c : Bool) → ((k : Heap) → atom_at i es ≡ Some a → (y : Heap) → AtomsHold env (without_atom i es) k × Joins x k y → AtomsHold env es y) →
-          cond c (Some e.1) (atom_at i es) ≡ Some a → AtomsHold env (cond c es (e ∷ without_atom i es)) d → AtomsHold env (e ∷ es) h
+      pick : (c : Bool) → ((k : Heap) → atom_at i es ≡ Some a → (y : Heap) → AtomsHold [] env (without_atom i es) k × Joins x k y → AtomsHold [] env es y) →
+          cond c (Some e.1) (atom_at i es) ≡ Some a → AtomsHold [] env (cond c es (e ∷ without_atom i es)) d → AtomsHold [] env (e ∷ es) h
       pick true more f w = (x, d, j, subst (λ z. Holds z x) (sym (some_same e.1 a f)) s, w)
       pick false more f w =
           let r = Joins-rest w.2 (Joins-swap j) in
           (w.0, r.0, r.2, w.3, more w.1 f r.0 (w.4, Joins-swap r.1))
 
   -- the same of an atom that is changed, or new
-  pub put_in : (atoms : Atoms) (i : ℕ) (a : Assn) (x d h : Heap) → Ascends atoms → AtomsHold env (without_atom i atoms) d → Joins x d h → Holds a x → AtomsHold env (with_atom i a atoms) h
+  pub put_in : (atoms : Atoms) (i : ℕ) (a : Assn) (x d h : Heap) → Ascends atoms → AtomsHold [] env (without_atom i atoms) d → Joins x d h → Holds a x → AtomsHold [] env (with_atom i a atoms) h
   put_in [] i a x d h o w j s = (x, d, j, s, w)
   put_in (e ∷ es) i a x d h o w j s = elim (order i e.0) [
     | below f g ↦
         let all_above : IsAbove i (e ∷ es) = (g, IsAbove-less i e.0 es g o.0) in
-        subst (λ z. AtomsHold env z h) (sym (with_below i a e es f)) (x, d, j, s, subst (λ z. AtomsHold env z d) (without_below i (e ∷ es) all_above) w)
+        subst (λ z. AtomsHold [] env z h) (sym (with_below i a e es f)) (x, d, j, s, subst (λ z. AtomsHold [] env z d) (without_below i (e ∷ es) all_above) w)
     | same f g ↦
-        subst (λ z. AtomsHold env z h) (sym (with_same i a e es f)) (x, d, j, s, subst (λ z. AtomsHold env z d) (without_same i e es f) w)
+        subst (λ z. AtomsHold [] env z h) (sym (with_same i a e es f)) (x, d, j, s, subst (λ z. AtomsHold [] env z d) (without_same i e es f) w)
     | above f g ↦
-        let v : AtomsHold env (e ∷ without_atom i es) d = subst (λ z. AtomsHold env z d) (without_above i e es f) w in
+        let v : AtomsHold [] env (e ∷ without_atom i es) d = subst (λ z. AtomsHold [] env z d) (without_above i e es f) w in
         let r = Joins-rest v.2 (Joins-swap j) in
-        subst (λ z. AtomsHold env z h) (sym (with_above i a e es f)) (v.0, r.0, r.2, v.3, put_in es i a x v.1 r.0 o.1 v.4 (Joins-swap r.1) s)
+        subst (λ z. AtomsHold [] env z h) (sym (with_above i a e es f)) (v.0, r.0, r.2, v.3, put_in es i a x v.1 r.0 o.1 v.4 (Joins-swap r.1) s)
   ]

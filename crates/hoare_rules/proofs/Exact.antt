@@ -1,5 +1,5 @@
 -- Each rule of commands in the steps of the checker, and the size of what is known after it.
-use Rattle.std.proofs.Common.{◌≡◌, ℕ, suc, ◌+◌, ◌-◌, ◌^◌, ◌<◌, ◌≤◌, Bool, true, false, ◌&&◌, cond, leb, ltb, min, List, Option, Some, None, sum_by, unwrap_or, refl, sym, ◌∙◌, ap, subst, arith}
+use Rattle.std.proofs.Common.{◌≡◌, ℕ, suc, ◌+◌, ◌-◌, ◌^◌, ◌<◌, ◌≤◌, Bool, true, false, ◌&&◌, cond, leb, ltb, min, List, Option, Some, None, sum_by, unwrap_or, refl, sym, ◌∙◌, ap, subst, arith, []}
 use Rattle.std.proofs.lemmas.Bool.{lt-ltb, leb-true, leb-false, lt-leb}
 use Rattle.std.proofs.Math.Bool.{and-true}
 use Rattle.std.proofs.lemmas.Cmp.{nat_cmp_total}
@@ -103,10 +103,10 @@ none_found p t (Some (a.Own at u)) go next needs e = pick (go at u) refl
     pick false f = ap (λ b. cond b (next at u) None) f
 none_found p t (Some _) go next needs e = refl
 
-pub no_read : (c : Context) (x : List ℕ) (r : Sort) (t : Term) (i : ℕ) (h : List ℕ) (p : ProofKind) → value_in_cell p t (atom_at i c.atoms) ≡ None → after_read c x r t i h p ≡ None
+pub no_read : (c : Context) (x : List ℕ) (r : Sort) (t : Term) (i : ℕ) (h : List ℕ) (p : ProofKind) → value_in_cell p t (atom_at i c.atoms) ≡ None → after_read [] c x r t i h p ≡ None
 no_read c x r t i h p e =
-    none_found p t (atom_at i c.atoms) (λ place value. is_of r (sort_of c.scope value) && is_at_place p t place && formula_fits (term.Eq (term.Var x) value)) _
-    (λ place value f. (both_true (is_of r (sort_of c.scope value)) (is_at_place p t place) (both_true (is_of r (sort_of c.scope value) && is_at_place p t place) (formula_fits (term.Eq (term.Var x) value)) f).0).1) e
+    none_found p t (atom_at i c.atoms) (λ place value. is_of r (sort_of [] c.scope value) && is_at_place p t place && formula_fits (term.Eq (term.Var x) value)) _
+    (λ place value f. (both_true (is_of r (sort_of [] c.scope value)) (is_at_place p t place) (both_true (is_of r (sort_of [] c.scope value) && is_at_place p t place) (formula_fits (term.Eq (term.Var x) value)) f).0).1) e
 
 -- ---- the rules
 
@@ -138,14 +138,14 @@ module _ (c : Context) (t : Term) (i : ℕ) (p : ProofKind) (v : Term) (found : 
   write_left u sorted n s k m counted range old new sum = let e = write_size u sorted in let f = free_size in omega arith
 
   pub read_is : (x : List ℕ) (r : Sort) (h : List ℕ) →
-      after_read c x r t i h p ≡ cond (is_of r (sort_of c.scope v) && formula_fits (term.Eq (term.Var x) v)) (if_fits (read_context c x r h v)) None
+      after_read [] c x r t i h p ≡ cond (is_of r (sort_of [] c.scope v) && formula_fits (term.Eq (term.Var x) v)) (if_fits (read_context c x r h v)) None
   read_is x r h =
       ap
       (λ o. on_cell o (λ place value.
-      cond (is_of r (sort_of c.scope value) && is_at_place p t place && formula_fits (term.Eq (term.Var x) value)) (if_fits (read_context c x r h value)) None))
+      cond (is_of r (sort_of [] c.scope value) && is_at_place p t place && formula_fits (term.Eq (term.Var x) value)) (if_fits (read_context c x r h value)) None))
       found.at
-      ∙ ap (λ b. cond (is_of r (sort_of c.scope v) && b && formula_fits (term.Eq (term.Var x) v)) (if_fits (read_context c x r h v)) None) found.proved
-      ∙ ap (λ b. cond (b && formula_fits (term.Eq (term.Var x) v)) (if_fits (read_context c x r h v)) None) (and-true (is_of r (sort_of c.scope v)))
+      ∙ ap (λ b. cond (is_of r (sort_of [] c.scope v) && b && formula_fits (term.Eq (term.Var x) v)) (if_fits (read_context c x r h v)) None) found.proved
+      ∙ ap (λ b. cond (b && formula_fits (term.Eq (term.Var x) v)) (if_fits (read_context c x r h v)) None) (and-true (is_of r (sort_of [] c.scope v)))
 
 pub read_size : (c : Context) (x : List ℕ) (r : Sort) (h : List ℕ) (v : Term) → context_nodes (read_context c x r h v) ≡ context_nodes c + (nodes v + 2)
 read_size c x r h v =

@@ -13,15 +13,16 @@ use Rattle.tht_tree.specs.declared.term.Term.{Term}
 use Rattle.tht_tree.specs.declared.state.Hyp.{Hyp}
 use Rattle.tht_tree.specs.declared.state.Local.{Local}
 use Rattle.tht_tree.specs.declared.state.Local.TheVariants.{Variable, Hypothesis}
-use Rattle.tht_tree.specs.Values.{Val, is, Env, bind, has_sort}
+use Rattle.tht_tree.specs.Values.{Val, is, Env, bind, has_sort, has_sort_val, is_storable}
 use Rattle.tht_tree.specs.Syntax.{Names, named, position, trm, asn}
 use Rattle.tht_tree.specs.Terms.{value_of}
 use Rattle.tht_tree.specs.Heaps.{Heap}
 use Rattle.tht_tree.specs.Satisfaction.{Satisfies, AtomsHold, HypsHold, HasSorts}
 use Rattle.tht_tree.specs.Rules.Context.{Scope, with_local}
-use Rattle.tht_tree.specs.Rules.Scoping.{same_sort, is_of, is_storable_sort, sort_of, assn_scoped, is_new}
-use Rattle.tht_tree.proofs.TermValues.{Agree, same_value_of, Extends}
-use Rattle.hoare_rules.proofs.Choices.{both_true}
+use Rattle.tht_tree.specs.Rules.Scoping.{same_sort, is_of, is_storable_sort, sort_of, sequence_free, program_sort, assn_scoped, is_new}
+use Rattle.tht_tree.proofs.TermValues.{Agree, Extends, same_sort-true}
+use Rattle.tht_tree.proofs.TermValues as terms
+use Rattle.hoare_rules.proofs.Choices.{both_true, if_some}
 use Rattle.hoare_rules.proofs.AtomLists.{Atoms}
 
 -- ---- names and sorts
@@ -32,14 +33,6 @@ bytes_tell x y = pick (bytes_eq x y) refl
     pick : (c : Bool) → bytes_eq x y ≡ c → ((bytes_eq x y ≡ true) × (x ≡ y)) ⊎ (bytes_eq x y ≡ false)
     pick true e = inl (e, (bytes_eq-Decides x y).0 e)
     pick false e = inr e
-
-same_sort-true : (s r : Sort) → same_sort s r ≡ true → s ≡ r
-same_sort-true sort.Nat sort.Nat e = refl
-same_sort-true sort.Bool sort.Bool e = refl
-same_sort-true sort.Loc sort.Loc e = refl
-same_sort-true sort.Unit sort.Unit e = refl
-same_sort-true sort.Seq sort.Seq e = refl
-same_sort-true _ _ e = cc
 
 pub same_sort-refl : (s : Sort) → same_sort s s ≡ true
 same_sort-refl sort.Nat = refl
@@ -52,14 +45,51 @@ pub is_of-true : (s : Sort) (o : Option Sort) → is_of s o ≡ true → o ≡ S
 is_of-true s None e = cc
 is_of-true s (Some r) e = ap Some (sym (same_sort-true s r e))
 
-pub storable-some : (o : Option Sort) → is_storable_sort o ≡ true → (s : Sort) × (o ≡ Some s)
+pub storable-some : (o : Option Sort) → is_storable_sort o ≡ true → (s : Sort) × (o ≡ Some s) × (is_storable s ≡ true)
 storable-some None e = cc
-storable-some (Some s) e = (s, refl)
+storable-some (Some s) e = (s, refl, e)
 
-pub own_sorts : (scope : Scope) (t u : Term) → assn_scoped scope (a.Own t u) ≡ true → (sort_of scope t ≡ Some sort.Loc) × ((s : Sort) × (sort_of scope u ≡ Some s))
+-- the sort of a term of the program is the term's
+pub program_is : (scope : Scope) (t : Term) (s : Sort) → program_sort [] scope t ≡ Some s → sort_of [] scope t ≡ Some s
+program_is scope t s e = (if_some (sequence_free t) (sort_of [] scope t) s e).1
+
+pub program_of : (scope : Scope) (t : Term) (s : Sort) → is_of s (program_sort [] scope t) ≡ true → sort_of [] scope t ≡ Some s
+program_of scope t s e = program_is scope t s (is_of-true s (program_sort [] scope t) e)
+
+pub program_stored : (scope : Scope) (t : Term) → is_storable_sort (program_sort [] scope t) ≡ true → is_storable_sort (sort_of [] scope t) ≡ true
+program_stored scope t e =
+    let s = storable-some (program_sort [] scope t) e in
+    ap is_storable_sort (program_is scope t s.0 s.1) ∙ s.2
+
+-- and no part of it makes a sequence
+pub program_free : (scope : Scope) (t : Term) (s : Sort) → is_of s (program_sort [] scope t) ≡ true → sequence_free t ≡ true
+program_free scope t s e = (if_some (sequence_free t) (sort_of [] scope t) s (is_of-true s (program_sort [] scope t) e)).0
+
+pub stored_free : (scope : Scope) (t : Term) → is_storable_sort (program_sort [] scope t) ≡ true → sequence_free t ≡ true
+stored_free scope t e =
+    let s = storable-some (program_sort [] scope t) e in
+    (if_some (sequence_free t) (sort_of [] scope t) s.0 s.1).0
+
+pub own_sorts : (scope : Scope) (t u : Term) → assn_scoped [] scope (a.Own t u) ≡ true → (sort_of [] scope t ≡ Some sort.Loc) × ((s : Sort) × (sort_of [] scope u ≡ Some s) × (is_storable s ≡ true))
 own_sorts scope t u e =
-    let h = both_true (is_of sort.Loc (sort_of scope t)) (is_storable_sort (sort_of scope u)) e in
-    (is_of-true sort.Loc (sort_of scope t) h.0, storable-some (sort_of scope u) h.1)
+    let h = both_true (is_of sort.Loc (sort_of [] scope t)) (is_storable_sort (sort_of [] scope u)) e in
+    (is_of-true sort.Loc (sort_of [] scope t) h.0, storable-some (sort_of [] scope u) h.1)
+
+-- ---- terms, where no root is declared
+
+-- a term of a sort has one value in two readings of names that agree on the variables
+pub same_value_of : (scope : Scope) (e : Env) (vs : List Val) (xs : Names) (d : Env) (ws : List Val) (ys : Names) → Agree [] scope e vs xs d ws ys
+    → (t : Term) (s : Sort) → sort_of [] scope t ≡ Some s → value_of e vs (trm [] xs t) ≡ value_of d ws (trm [] ys t)
+same_value_of scope e vs xs d ws ys agree = terms.same_value_of [] scope e vs xs d ws ys agree (λ x r h n. cc)
+
+-- a term of a sort whose values a cell can hold has such a value
+pub value_of_sort : (scope : Scope) (env : Env) → HasSorts env scope → (t : Term) (s : Sort) → sort_of [] scope t ≡ Some s → is_storable s ≡ true
+    → (w : Value) × (value_of env [] (trm [] [] t) ≡ is w) × (has_sort s w ≡ true)
+value_of_sort scope env sorts t s e f = terms.stored s (value_of env [] (trm [] [] t)) f (terms.value_of_sort [] scope env (λ x r h. cc) sorts t s e)
+
+-- a term keeps its sort where more names are in scope
+pub sort_of-Extends : (old new : Scope) → Extends old new → (t : Term) (s : Sort) → sort_of [] old t ≡ Some s → sort_of [] new t ≡ Some s
+sort_of-Extends old new extends = terms.sort_of-Extends [] old new (λ x r h. cc) extends
 
 none_of : (o : Option Local) → is_none o ≡ true → o ≡ None
 none_of None e = refl
@@ -77,7 +107,7 @@ pub with_itself : (scope : Scope) (x : List ℕ) (l : Local) → with_local scop
 with_itself scope x l = with_here scope x l x ((bytes_eq-Decides x x).1 refl)
 
 -- what is in scope is not a new name
-not_new : (scope : Scope) (x y : List ℕ) (l : Local) → is_new scope x ≡ true → scope y ≡ Some l → bytes_eq x y ≡ true → ⊥
+not_new : (scope : Scope) (x y : List ℕ) (l : Local) → is_new [] scope x ≡ true → scope y ≡ Some l → bytes_eq x y ≡ true → ⊥
 not_new scope x y l n e f =
     let g = ap scope ((bytes_eq-Decides x y).0 f) in
     let h = none_of (scope x) n in
@@ -86,14 +116,14 @@ not_new scope x y l n e f =
     no_some : None ≡ Some l → ⊥
     no_some e = cc
 
-pub Extends-with_local : (scope : Scope) (x : List ℕ) (l : Local) → is_new scope x ≡ true → Extends scope (with_local scope x l)
+pub Extends-with_local : (scope : Scope) (x : List ℕ) (l : Local) → is_new [] scope x ≡ true → Extends scope (with_local scope x l)
 Extends-with_local scope x l n y s e = elim (bytes_tell x y) [
   | inl h ↦ absurd (not_new scope x y (Variable s) n e h.0)
   | inr h ↦ with_other scope x l y h ∙ e
 ]
 
 -- the values of the names that were in scope
-pub Agree-bind : (scope : Scope) (env : Env) (x : List ℕ) (v : Val) → is_new scope x ≡ true → Agree scope env [] [] (bind env x v) [] []
+pub Agree-bind : (scope : Scope) (env : Env) (x : List ℕ) (v : Val) → is_new [] scope x ≡ true → Agree [] scope env [] [] (bind env x v) [] []
 Agree-bind scope env x v n y s e = elim (bytes_tell x y) [
   | inl h ↦ absurd (not_new scope x y (Variable s) n e h.0)
   | inr h ↦ ap (λ c. cond c v (env y)) (sym h)
@@ -103,10 +133,8 @@ pub HasSorts-bind : (scope : Scope) (env : Env) (x : List ℕ) (s : Sort) (w : V
 HasSorts-bind scope env x s w h sorts y r e = elim (bytes_tell x y) [
   | inl f ↦
       let same : s ≡ r = the_sort s r (sym (with_here scope x (Variable s) y f.0) ∙ e) in
-      (w, ap (λ c. cond c (is w) (env y)) f.0, subst (λ z. has_sort z w ≡ true) same h)
-  | inr f ↦
-      let old = sorts y r (sym (with_other scope x (Variable s) y f) ∙ e) in
-      (old.0, ap (λ c. cond c (is w) (env y)) f ∙ old.1, old.2)
+      ap (λ c. has_sort_val r (cond c (is w) (env y))) f.0 ∙ subst (λ z. has_sort z w ≡ true) same h
+  | inr f ↦ ap (λ c. has_sort_val r (cond c (is w) (env y))) f ∙ sorts y r (sym (with_other scope x (Variable s) y f) ∙ e)
 ]
   where
     the_sort : (s r : Sort) → Some (Variable s) ≡ Some (Variable r) → s ≡ r
@@ -124,27 +152,27 @@ HasSorts-Hypothesis scope env x sorts y r e = elim (bytes_tell x y) [
 -- ---- names by position
 
 -- one more bound variable moves the others one further
-pub one_further : (env : Env) (v : Val) (vs : List Val) (k : ℕ) (xs : Names) (y : List ℕ) → value_of env (v ∷ vs) (named y (position (suc k) xs y)) ≡ value_of env vs (named y (position k xs y))
+pub one_further : (env : Env) (v : Val) (vs : List Val) (k : ℕ) (xs : Names) (y : List ℕ) → value_of env (v ∷ vs) (named [] y (position (suc k) xs y)) ≡ value_of env vs (named [] y (position k xs y))
 one_further env v vs k [] y = refl
 one_further env v vs k (x ∷ xs) y = pick (bytes_eq x y) (one_further env v vs (suc k) xs y)
   where
-    pick : (c : Bool) → value_of env (v ∷ vs) (named y (position (suc (suc k)) xs y)) ≡ value_of env vs (named y (position (suc k) xs y)) →
-        value_of env (v ∷ vs) (named y (cond c (Some (suc k)) (position (suc (suc k)) xs y))) ≡ value_of env vs (named y (cond c (Some k) (position (suc k) xs y)))
+    pick : (c : Bool) → value_of env (v ∷ vs) (named [] y (position (suc (suc k)) xs y)) ≡ value_of env vs (named [] y (position (suc k) xs y)) →
+        value_of env (v ∷ vs) (named [] y (cond c (Some (suc k)) (position (suc (suc k)) xs y))) ≡ value_of env vs (named [] y (cond c (Some k) (position (suc k) xs y)))
     pick true more = refl
     pick false more = more
 
-module _ (scope : Scope) (outer : Env) (vs : List Val) (xs : Names) (env : Env) (agree : Agree scope outer vs xs env [] []) where
-  pub Agree-more : (x : List ℕ) (s : Sort) (v : Val) → Agree (with_local scope x (Variable s)) outer (v ∷ vs) (x ∷ xs) (bind env x v) [] []
+module _ (scope : Scope) (outer : Env) (vs : List Val) (xs : Names) (env : Env) (agree : Agree [] scope outer vs xs env [] []) where
+  pub Agree-more : (x : List ℕ) (s : Sort) (v : Val) → Agree [] (with_local scope x (Variable s)) outer (v ∷ vs) (x ∷ xs) (bind env x v) [] []
   Agree-more x s v y r e = elim (bytes_tell x y) [
-    | inl f ↦ ap (λ c. value_of outer (v ∷ vs) (named y (cond c (Some 0) (position 1 xs y)))) f.0 ∙ ap (λ c. cond c v (env y)) (sym f.0)
+    | inl f ↦ ap (λ c. value_of outer (v ∷ vs) (named [] y (cond c (Some 0) (position 1 xs y)))) f.0 ∙ ap (λ c. cond c v (env y)) (sym f.0)
     | inr f ↦
-        ap (λ c. value_of outer (v ∷ vs) (named y (cond c (Some 0) (position 1 xs y)))) f
+        ap (λ c. value_of outer (v ∷ vs) (named [] y (cond c (Some 0) (position 1 xs y)))) f
         ∙ one_further outer v vs 0 xs y
         ∙ agree y r (sym (with_other scope x (Variable s) y f) ∙ e)
         ∙ ap (λ c. cond c v (env y)) (sym f)
   ]
 
-  pub Agree-Hypothesis : (x : List ℕ) → Agree (with_local scope x Hypothesis) outer vs xs env [] []
+  pub Agree-Hypothesis : (x : List ℕ) → Agree [] (with_local scope x Hypothesis) outer vs xs env [] []
   Agree-Hypothesis x y r e = elim (bytes_tell x y) [
     | inl f ↦ absurd (no_variable r (sym (with_here scope x Hypothesis y f.0) ∙ e))
     | inr f ↦ agree y r (sym (with_other scope x Hypothesis y f) ∙ e)
@@ -152,34 +180,34 @@ module _ (scope : Scope) (outer : Env) (vs : List Val) (xs : Names) (env : Env) 
 
 -- ---- atoms and hypotheses in another environment
 
-module _ (scope : Scope) (env new : Env) (agree : Agree scope env [] [] new [] []) where
-  same_value : (t : Term) (s : Sort) → sort_of scope t ≡ Some s → value_of new [] (trm [] t) ≡ value_of env [] (trm [] t)
+module _ (scope : Scope) (env new : Env) (agree : Agree [] scope env [] [] new [] []) where
+  same_value : (t : Term) (s : Sort) → sort_of [] scope t ≡ Some s → value_of new [] (trm [] [] t) ≡ value_of env [] (trm [] [] t)
   same_value t s h = sym (same_value_of scope env [] [] new [] [] agree t s h)
 
-  Satisfies-env : (x : Assn) (h : Heap) → assn_scoped scope x ≡ true → Satisfies env [] (asn [] x) h → Satisfies new [] (asn [] x) h
+  Satisfies-env : (x : Assn) (h : Heap) → assn_scoped [] scope x ≡ true → Satisfies env [] (asn [] [] x) h → Satisfies new [] (asn [] [] x) h
   Satisfies-env a.Emp h e w = w
   Satisfies-env (a.Own t u) h e w =
       let sorts = own_sorts scope t u e in
       (w.0, w.1, w.2, w.3, same_value t sort.Loc sorts.0 ∙ w.4, same_value u sorts.1.0 sorts.1.1 ∙ w.5, w.6)
   Satisfies-env _ h e w = cc
 
-  pub AtomsHold-env : (atoms : Atoms) (h : Heap) → All (λ x. assn_scoped scope x.1 ≡ true) atoms → AtomsHold env atoms h → AtomsHold new atoms h
+  pub AtomsHold-env : (atoms : Atoms) (h : Heap) → All (λ x. assn_scoped [] scope x.1 ≡ true) atoms → AtomsHold [] env atoms h → AtomsHold [] new atoms h
   AtomsHold-env [] h all w = w
   AtomsHold-env (x ∷ rest) h all w = (
     w.0,
     w.1,
     w.2,
-    Satisfies-env x.1 w.0 (All-head (λ x. assn_scoped scope x.1 ≡ true) x rest all) w.3,
-    AtomsHold-env rest w.1 (All-tail (λ x. assn_scoped scope x.1 ≡ true) x rest all) w.4,
+    Satisfies-env x.1 w.0 (All-head (λ x. assn_scoped [] scope x.1 ≡ true) x rest all) w.3,
+    AtomsHold-env rest w.1 (All-tail (λ x. assn_scoped [] scope x.1 ≡ true) x rest all) w.4,
   )
 
-  pub HypsHold-env : (hs : List Hyp) → All (λ h. sort_of scope h.formula ≡ Some sort.Bool) hs → HypsHold env hs → HypsHold new hs
+  pub HypsHold-env : (hs : List Hyp) → All (λ h. sort_of [] scope h.formula ≡ Some sort.Bool) hs → HypsHold [] env hs → HypsHold [] new hs
   HypsHold-env [] all w = w
   HypsHold-env (h ∷ hs) all w = (
-    same_value h.formula sort.Bool (All-head (λ h. sort_of scope h.formula ≡ Some sort.Bool) h hs all) ∙ w.0,
-    HypsHold-env hs (All-tail (λ h. sort_of scope h.formula ≡ Some sort.Bool) h hs all) w.1,
+    same_value h.formula sort.Bool (All-head (λ h. sort_of [] scope h.formula ≡ Some sort.Bool) h hs all) ∙ w.0,
+    HypsHold-env hs (All-tail (λ h. sort_of [] scope h.formula ≡ Some sort.Bool) h hs all) w.1,
   )
 
-pub HypsHold-push : (env : Env) (hs : List Hyp) (h : Hyp) → HypsHold env hs → value_of env [] (trm [] h.formula) ≡ is (BoolValue true) → HypsHold env (hs ++ h ∷ [])
+pub HypsHold-push : (env : Env) (hs : List Hyp) (h : Hyp) → HypsHold [] env hs → value_of env [] (trm [] [] h.formula) ≡ is (BoolValue true) → HypsHold [] env (hs ++ h ∷ [])
 HypsHold-push env [] h w e = (e, tt)
 HypsHold-push env (g ∷ hs) h w e = (w.0, HypsHold-push env hs h w.1 e)

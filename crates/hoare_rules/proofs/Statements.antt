@@ -59,7 +59,7 @@ free_context c i = record c { atoms = without_atom i c.atoms }
 pub record Reads (c : Context) (x : List ℕ) (r : Sort) (t : Term) (i : ℕ) (h : List ℕ) (d : Context) : Type 0 where
   pub value : Term
   pub at : atom_at i c.atoms ≡ Some (a.Own t value)
-  pub of_sort : sort_of c.scope value ≡ Some r
+  pub of_sort : sort_of [] c.scope value ≡ Some r
   pub after : d ≡ read_context c x r h value
 
 pub record Writes (c : Context) (t u : Term) (i : ℕ) (d : Context) : Type 0 where
@@ -75,16 +75,16 @@ pub record Frees (c : Context) (t : Term) (i : ℕ) (d : Context) : Type 0 where
 at_place : (o : Option Assn) (t place value : Term) → t ≡ place → o ≡ Some (a.Own place value) → o ≡ Some (a.Own t value)
 at_place o t place value e f = subst (λ z. o ≡ Some (a.Own z value)) (sym e) f
 
-pub reads : (c : Context) (x : List ℕ) (r : Sort) (t : Term) (i : ℕ) (h : List ℕ) (p : ProofKind) (d : Context) → after_read c x r t i h p ≡ Some d → Reads c x r t i h d
+pub reads : (c : Context) (x : List ℕ) (r : Sort) (t : Term) (i : ℕ) (h : List ℕ) (p : ProofKind) (d : Context) → after_read [] c x r t i h p ≡ Some d → Reads c x r t i h d
 reads c x r t i h p d e =
     let cell = on_cell_some (atom_at i c.atoms) _ d e in
-    let all = if_some (is_of r (sort_of c.scope cell.1) && is_at_place p t cell.0 && formula_fits (term.Eq (term.Var x) cell.1)) _ d cell.3 in
-    let two = both_true (is_of r (sort_of c.scope cell.1) && is_at_place p t cell.0) (formula_fits (term.Eq (term.Var x) cell.1)) all.0 in
-    let one = both_true (is_of r (sort_of c.scope cell.1)) (is_at_place p t cell.0) two.0 in
+    let all = if_some (is_of r (sort_of [] c.scope cell.1) && is_at_place p t cell.0 && formula_fits (term.Eq (term.Var x) cell.1)) _ d cell.3 in
+    let two = both_true (is_of r (sort_of [] c.scope cell.1) && is_at_place p t cell.0) (formula_fits (term.Eq (term.Var x) cell.1)) all.0 in
+    let one = both_true (is_of r (sort_of [] c.scope cell.1)) (is_at_place p t cell.0) two.0 in
     record {
       value = cell.1;
       at = at_place (atom_at i c.atoms) t cell.0 cell.1 (place_is p t cell.0 one.1) cell.2;
-      of_sort = is_of-true r (sort_of c.scope cell.1) one.0;
+      of_sort = is_of-true r (sort_of [] c.scope cell.1) one.0;
       after = fits_is (read_context c x r h cell.1) d all.1;
     }
 

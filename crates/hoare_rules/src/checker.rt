@@ -5,8 +5,9 @@ ghost use Rattle.tht_tree.specs.Rules.Context.{context_of, context_nodes};
 
 use crate::atoms::{NamedCell, add_cell, cell_value, set_cell_value, take_atom};
 use crate::refusal::Refusal;
-use crate::scope::{bind, term_has_sort};
+use crate::scope::bind;
 use crate::sizes::{context_is_within, named_fits, named_size, pair_fits, pair_size, state_size};
+use crate::terms::term_has_sort;
 use sqlite_items::{Boxed, Items};
 use std::alloc::Global;
 use tht_tree::body::StmtKind;
@@ -42,9 +43,9 @@ impl Checker {
 
     /// Goes on over a statement. After an `Err` what is known is of no use.
     pub fn statement(&mut self, alloc: Global, stmt: &StmtKind) -> Result<(), Refusal>
-        requires { IsFormed (context_of self.old.state) }
-        ensures ok { OnOk result (after_stmt stmt.now (context_of self.old.state) ≡ Some (context_of self.new.state)) }
-        ensures refused { IsErrOf result Refusal.Rule → after_stmt stmt.now (context_of self.old.state) ≡ None }
+        requires { IsFormed [] (context_of self.old.state) }
+        ensures ok { OnOk result (after_stmt [] stmt.now (context_of self.old.state) ≡ Some (context_of self.new.state)) }
+        ensures refused { IsErrOf result Refusal.Rule → after_stmt [] stmt.now (context_of self.old.state) ≡ None }
     {
         match stmt {
             StmtKind::Read(x, sort, place, number, hyp, proof) => {
@@ -77,7 +78,7 @@ impl Checker {
     }
 
     fn write(&mut self, alloc: Global, value: &Term, cell: NamedCell<'_>) -> Result<(), Refusal>
-        requires { IsFormed (context_of self.old.state) }
+        requires { IsFormed [] (context_of self.old.state) }
         ensures ok { OnOk result (after_write (context_of self.old.state) cell.entry.place.now value.now cell.entry.number cell.entry.proof.now ≡ Some (context_of self.new.state)) }
         ensures refused { IsErrOf result Refusal.Rule → after_write (context_of self.old.state) cell.entry.place.now value.now cell.entry.number cell.entry.proof.now ≡ None }
     {
@@ -99,7 +100,7 @@ impl Checker {
     }
 
     fn free(&mut self, cell: NamedCell<'_>) -> Result<(), Refusal>
-        requires { IsFormed (context_of self.old.state) }
+        requires { IsFormed [] (context_of self.old.state) }
         ensures ok { OnOk result (after_free (context_of self.old.state) cell.entry.place.now cell.entry.number cell.entry.proof.now ≡ Some (context_of self.new.state)) }
         ensures refused { IsErrOf result Refusal.Rule → after_free (context_of self.old.state) cell.entry.place.now cell.entry.number cell.entry.proof.now ≡ None }
     {
@@ -116,7 +117,7 @@ impl Checker {
     }
 
     fn allocate(&mut self, alloc: Global, name: &Name, value: &Term) -> Result<(), Refusal>
-        requires { IsFormed (context_of self.old.state) }
+        requires { IsFormed [] (context_of self.old.state) }
         ensures ok { OnOk result (after_alloc (context_of self.old.state) name.now value.now ≡ Some (context_of self.new.state)) }
         ensures refused { IsErrOf result Refusal.Rule → after_alloc (context_of self.old.state) name.now value.now ≡ None }
     {
@@ -146,9 +147,9 @@ impl Checker {
         hyp: &Name,
         cell: NamedCell<'_>,
     ) -> Result<(), Refusal>
-        requires { IsFormed (context_of self.old.state) }
-        ensures ok { OnOk result (after_read (context_of self.old.state) name.now sort cell.entry.place.now cell.entry.number hyp.now cell.entry.proof.now ≡ Some (context_of self.new.state)) }
-        ensures refused { IsErrOf result Refusal.Rule → after_read (context_of self.old.state) name.now sort cell.entry.place.now cell.entry.number hyp.now cell.entry.proof.now ≡ None }
+        requires { IsFormed [] (context_of self.old.state) }
+        ensures ok { OnOk result (after_read [] (context_of self.old.state) name.now sort cell.entry.place.now cell.entry.number hyp.now cell.entry.proof.now ≡ Some (context_of self.new.state)) }
+        ensures refused { IsErrOf result Refusal.Rule → after_read [] (context_of self.old.state) name.now sort cell.entry.place.now cell.entry.number hyp.now cell.entry.proof.now ≡ None }
     {
         let Some(value) = cell_value(&self.state.atoms, self.state.made, &cell) else {
             return Err(Refusal::Rule);

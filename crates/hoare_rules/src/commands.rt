@@ -1,5 +1,5 @@
 // The rules of commands.
-ghost use Rattle.std.specs.Prelude.{◌≡◌, true, false, OnOk, IsErrOf};
+ghost use Rattle.std.specs.Prelude.{◌≡◌, [], true, false, OnOk, IsErrOf};
 ghost use Rattle.tht_tree.specs.Bodies.{BodyKeeps};
 ghost use Rattle.tht_tree.specs.Rules.Context.{context_of};
 ghost use Rattle.tht_tree.specs.Rules.Commands.{gives, end_holds, holds};
@@ -20,13 +20,13 @@ use tht_tree::state::{Post, State};
 /// The time is at most in proportion to the size of the statements and of the terms that they add, times the logarithm
 /// of the number of names and atoms.
 pub fn body_holds(alloc: Global, state: State, body: &Body, post: &Post) -> Result<(), Refusal>
-    requires formed { IsFormed (context_of state) }
-    requires scoped { body_scoped post.now.sort body.now (context_of state).scope ≡ true }
-    ensures ok { OnOk result (holds body.now post.now.assn (context_of state) ≡ true) }
-    ensures refused { IsErrOf result Refusal.Rule → holds body.now post.now.assn (context_of state) ≡ false }
+    requires formed { IsFormed [] (context_of state) }
+    requires scoped { body_scoped [] post.now.sort body.now (context_of state).scope ≡ true }
+    ensures ok { OnOk result (holds [] body.now post.now.assn (context_of state) ≡ true) }
+    ensures refused { IsErrOf result Refusal.Rule → holds [] body.now post.now.assn (context_of state) ≡ false }
 
     // From each environment and heap that satisfy the context, the body is no fault and leaves the postcondition.
-    ensures sound { OnOk result (BodyKeeps (context_of state) body.now post.now) }
+    ensures sound { OnOk result (BodyKeeps [] (context_of state) body.now post.now) }
 {
     let mut checker = Checker::new(state)?;
     let result = check_body(alloc, &mut checker, body, post);
@@ -39,10 +39,10 @@ fn forget(checker: Checker) {
 }
 
 fn check_body(alloc: Global, checker: &mut Checker, body: &Body, post: &Post) -> Result<(), Refusal>
-    requires formed { IsFormed (context_of checker.old.state) }
-    requires scoped { body_scoped post.now.sort body.now (context_of checker.old.state).scope ≡ true }
-    ensures ok { OnOk result (holds body.now post.now.assn (context_of checker.old.state) ≡ true) }
-    ensures refused { IsErrOf result Refusal.Rule → holds body.now post.now.assn (context_of checker.old.state) ≡ false }
+    requires formed { IsFormed [] (context_of checker.old.state) }
+    requires scoped { body_scoped [] post.now.sort body.now (context_of checker.old.state).scope ≡ true }
+    ensures ok { OnOk result (holds [] body.now post.now.assn (context_of checker.old.state) ≡ true) }
+    ensures refused { IsErrOf result Refusal.Rule → holds [] body.now post.now.assn (context_of checker.old.state) ≡ false }
 {
     for stmt in body.stmts.as_slice() {
         checker.statement(alloc, &stmt.kind)?;

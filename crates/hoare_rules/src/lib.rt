@@ -9,6 +9,7 @@ mod refusal;
 mod scope;
 mod sizes;
 mod sorts;
+mod terms;
 
 pub use commands::body_holds;
 pub use laws::{accepted_is_sound, keeps_fewer};

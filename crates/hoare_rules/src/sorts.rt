@@ -4,14 +4,13 @@ ghost use Rattle.tht_tree.specs.declared.plain.Sort.TheVariants.{Loc};
 ghost use Rattle.tht_tree.specs.declared.state.Local.TheVariants.{Variable};
 ghost use Rattle.tht_tree.specs.Values.{is_storable as stores};
 ghost use Rattle.tht_tree.specs.Rules.Context.{no_locals, with_local};
-ghost use Rattle.tht_tree.specs.Rules.Scoping.{is_of, is_storable_sort, sort_of, assn_scoped, stmt_scope, end_scoped, body_scoped};
+ghost use Rattle.tht_tree.specs.Rules.Scoping.{is_of, is_storable_sort, program_sort, assn_scoped, stmt_scope, end_scoped, body_scoped};
 ghost use Rattle.tht_tree.specs.Rules.Scoping.{is_built_proof, is_built_give, is_built_assn, is_well_sorted};
 ghost use Rattle.hoare_rules.specs.Locals.{locals_of};
 ghost use Rattle.hoare_rules.specs.declared.sorts.WalkEnd.TheVariants.{Memory, Refused};
 
-use crate::scope::{
-    Scope, assn_is_sorted, bind, is_new, is_storable, no_names, term_has_sort, term_is_storable,
-};
+use crate::scope::{Scope, bind, is_new, no_names};
+use crate::terms::{assn_is_sorted, is_storable, program_has_sort, program_is_storable};
 use std::alloc::{AllocError, Global};
 use tht_tree::assn::Assn;
 use tht_tree::body::{Cells, EndKind, StmtKind};
@@ -54,9 +53,9 @@ pub fn well_sorted(alloc: Global, file: &Source1) -> Result<(), WalkEnd>
 // Main's postcondition, in which its result is known.
 fn walk_post(alloc: Global, main: &Main) -> Result<(), WalkEnd>
     ensures ok { OnOk result (stores main.now.sort && is_built_assn main.now.post
-        && assn_scoped (with_local no_locals main.now.result (Variable main.now.sort)) main.now.post ≡ true) }
+        && assn_scoped [] (with_local no_locals main.now.result (Variable main.now.sort)) main.now.post ≡ true) }
     ensures refused { IsErrOf result WalkEnd.Refused → stores main.now.sort && is_built_assn main.now.post
-        && assn_scoped (with_local no_locals main.now.result (Variable main.now.sort)) main.now.post ≡ false }
+        && assn_scoped [] (with_local no_locals main.now.result (Variable main.now.sort)) main.now.post ≡ false }
 {
     let mut scope = no_names(alloc);
     bind(alloc, &mut scope, &main.result, Local::Variable(main.sort))?;
@@ -66,8 +65,8 @@ fn walk_post(alloc: Global, main: &Main) -> Result<(), WalkEnd>
 
 // Main's body, from no name.
 fn walk_body(alloc: Global, main: &Main) -> Result<(), WalkEnd>
-    ensures ok { OnOk result (body_scoped main.now.sort main.now.body no_locals ≡ true) }
-    ensures refused { IsErrOf result WalkEnd.Refused → body_scoped main.now.sort main.now.body no_locals ≡ false }
+    ensures ok { OnOk result (body_scoped [] main.now.sort main.now.body no_locals ≡ true) }
+    ensures refused { IsErrOf result WalkEnd.Refused → body_scoped [] main.now.sort main.now.body no_locals ≡ false }
 {
     let mut scope = no_names(alloc);
     let body = main.body.get();
@@ -79,19 +78,19 @@ fn walk_body(alloc: Global, main: &Main) -> Result<(), WalkEnd>
 
 // Whether the body that ends so returns a value of this sort.
 fn end_has_sort(end: &EndKind, sort: Sort, scope: &Scope) -> bool
-    ensures { result ≡ end_scoped sort end.now (locals_of scope.now) }
+    ensures { result ≡ end_scoped [] sort end.now (locals_of scope.now) }
 {
     match end {
         EndKind::Ret(value, give) => {
-            is_emp(&give.kind) && term_has_sort(value.get(), sort, scope)
+            is_emp(&give.kind) && program_has_sort(value.get(), sort, scope)
         }
         _ => false,
     }
 }
 
 fn walk_stmt(alloc: Global, stmt: &StmtKind, scope: &mut Scope) -> Result<(), WalkEnd>
-    ensures ok { OnOk result (stmt_scope stmt.now (locals_of scope.old) ≡ Some (locals_of scope.new)) }
-    ensures refused { IsErrOf result WalkEnd.Refused → stmt_scope stmt.now (locals_of scope.old) ≡ None }
+    ensures ok { OnOk result (stmt_scope [] stmt.now (locals_of scope.old) ≡ Some (locals_of scope.new)) }
+    ensures refused { IsErrOf result WalkEnd.Refused → stmt_scope [] stmt.now (locals_of scope.old) ≡ None }
 {
     match stmt {
         StmtKind::Read(x, sort, place, _, h, proof) => {
@@ -117,8 +116,8 @@ fn walk_read(
     proof: &Proof,
     scope: &mut Scope,
 ) -> Result<(), WalkEnd>
-    ensures ok { OnOk result ((i : ℕ) → stmt_scope (StmtKind.Read x.now sort place.now i hyp.now proof.now) (locals_of scope.old) ≡ Some (locals_of scope.new)) }
-    ensures refused { IsErrOf result WalkEnd.Refused → (i : ℕ) → stmt_scope (StmtKind.Read x.now sort place.now i hyp.now proof.now) (locals_of scope.old) ≡ None }
+    ensures ok { OnOk result ((i : ℕ) → stmt_scope [] (StmtKind.Read x.now sort place.now i hyp.now proof.now) (locals_of scope.old) ≡ Some (locals_of scope.new)) }
+    ensures refused { IsErrOf result WalkEnd.Refused → (i : ℕ) → stmt_scope [] (StmtKind.Read x.now sort place.now i hyp.now proof.now) (locals_of scope.old) ≡ None }
 {
     let is_place = names_cell(place, &proof.kind, scope);
     refuse_unless(is_place && is_storable(sort) && is_new(scope, x))?;
@@ -129,18 +128,18 @@ fn walk_read(
 }
 
 fn walk_write(place: &Term, value: &Term, proof: &ProofKind, scope: &Scope) -> Result<(), WalkEnd>
-    ensures ok { OnOk result (IsTrue (is_built_proof proof.now && is_of Loc (sort_of (locals_of scope.now) place.now)
-        && is_storable_sort (sort_of (locals_of scope.now) value.now))) }
-    ensures refused { IsErrOf result WalkEnd.Refused → (is_built_proof proof.now && is_of Loc (sort_of (locals_of scope.now) place.now)
-        && is_storable_sort (sort_of (locals_of scope.now) value.now)) ≡ false }
+    ensures ok { OnOk result (IsTrue (is_built_proof proof.now && is_of Loc (program_sort [] (locals_of scope.now) place.now)
+        && is_storable_sort (program_sort [] (locals_of scope.now) value.now))) }
+    ensures refused { IsErrOf result WalkEnd.Refused → (is_built_proof proof.now && is_of Loc (program_sort [] (locals_of scope.now) place.now)
+        && is_storable_sort (program_sort [] (locals_of scope.now) value.now)) ≡ false }
 {
     let is_place = names_cell(place, proof, scope);
-    refuse_unless(is_place && term_is_storable(value, scope))
+    refuse_unless(is_place && program_is_storable(value, scope))
 }
 
 fn walk_alloc(alloc: Global, x: &Name, cells: &Cells, scope: &mut Scope) -> Result<(), WalkEnd>
-    ensures ok { OnOk result (stmt_scope (StmtKind.Alloc x.now cells.now) (locals_of scope.old) ≡ Some (locals_of scope.new)) }
-    ensures refused { IsErrOf result WalkEnd.Refused → stmt_scope (StmtKind.Alloc x.now cells.now) (locals_of scope.old) ≡ None }
+    ensures ok { OnOk result (stmt_scope [] (StmtKind.Alloc x.now cells.now) (locals_of scope.old) ≡ Some (locals_of scope.new)) }
+    ensures refused { IsErrOf result WalkEnd.Refused → stmt_scope [] (StmtKind.Alloc x.now cells.now) (locals_of scope.old) ≡ None }
 {
     match cells.as_slice() {
         [value] => walk_cell(alloc, x, value, scope),
@@ -149,19 +148,19 @@ fn walk_alloc(alloc: Global, x: &Name, cells: &Cells, scope: &mut Scope) -> Resu
 }
 
 fn walk_cell(alloc: Global, x: &Name, value: &Term, scope: &mut Scope) -> Result<(), WalkEnd>
-    ensures ok { OnOk result (stmt_scope (StmtKind.Alloc x.now (value.now ∷ [])) (locals_of scope.old) ≡ Some (locals_of scope.new)) }
-    ensures refused { IsErrOf result WalkEnd.Refused → stmt_scope (StmtKind.Alloc x.now (value.now ∷ [])) (locals_of scope.old) ≡ None }
+    ensures ok { OnOk result (stmt_scope [] (StmtKind.Alloc x.now (value.now ∷ [])) (locals_of scope.old) ≡ Some (locals_of scope.new)) }
+    ensures refused { IsErrOf result WalkEnd.Refused → stmt_scope [] (StmtKind.Alloc x.now (value.now ∷ [])) (locals_of scope.old) ≡ None }
 {
-    refuse_unless(term_is_storable(value, scope) && is_new(scope, x))?;
+    refuse_unless(program_is_storable(value, scope) && is_new(scope, x))?;
     bind(alloc, scope, x, Local::Variable(Sort::Loc))?;
     Ok(())
 }
 
 // Whether a statement may name a cell by the term and the proof.
 fn names_cell(place: &Term, proof: &ProofKind, scope: &Scope) -> bool
-    ensures { result ≡ (is_built_proof proof.now && is_of Loc (sort_of (locals_of scope.now) place.now)) }
+    ensures { result ≡ (is_built_proof proof.now && is_of Loc (program_sort [] (locals_of scope.now) place.now)) }
 {
-    is_refl(proof) && term_has_sort(place, Sort::Loc, scope)
+    is_refl(proof) && program_has_sort(place, Sort::Loc, scope)
 }
 
 // Whether the proof is one that is built.

@@ -237,18 +237,32 @@ fn hypothesis_as_variable(alloc: Global) -> Result<Source1, AllocError> {
     stmts.ret(var(alloc, "h")?)
 }
 
-// Bool is no sort of a cell yet.
-fn read_of_bool(alloc: Global) -> Result<Source1, AllocError> {
+// A cell can hold a truth.
+fn cell_of_bool(alloc: Global) -> Result<Source1, AllocError> {
     let mut stmts = Statements::new(alloc);
-    stmts.alloc("x", Term::Num(5))?;
+    stmts.alloc("x", Term::True)?;
     stmts.read("y", Sort::Bool, "x", 1)?;
     stmts.free("x", 1)?;
     stmts.ret(Term::Num(0))
 }
 
-// No term but those of the first forms has a sort yet.
-fn unbuilt_term(alloc: Global) -> Result<Source1, AllocError> {
-    Statements::new(alloc).ret(Term::Null)
+// `len nil` is a number, and `nil` is of the logic alone.
+fn sequence_in_a_program(alloc: Global) -> Result<Source1, AllocError> {
+    let nil = Boxed::new(alloc, Term::Nil)?;
+    Statements::new(alloc).ret(Term::Len(nil))
+}
+
+// `len 0` has no sort.
+fn length_of_a_number(alloc: Global) -> Result<Source1, AllocError> {
+    let zero = Boxed::new(alloc, Term::Num(0))?;
+    Statements::new(alloc).ret(Term::Len(zero))
+}
+
+// A truth is returned for a number.
+fn truth_for_a_number(alloc: Global) -> Result<Source1, AllocError> {
+    let zero = Boxed::new(alloc, Term::Num(0))?;
+    let one = Boxed::new(alloc, Term::Num(1))?;
+    Statements::new(alloc).ret(Term::Lt(zero, one))
 }
 
 // A place is returned for a number.
@@ -263,6 +277,7 @@ fn sort_clash(alloc: Global) -> Result<Source1, AllocError> {
 fn a_freed_cell_is_accepted(rt: HostRuntime) -> Result<(), Fail> {
     let alloc = rt.alloc();
     assert_eq!(rt; check(alloc, &freed_cell(alloc)?), Answer::Accepted);
+    assert_eq!(rt; check(alloc, &cell_of_bool(alloc)?), Answer::Accepted);
     Ok(())
 }
 
@@ -286,7 +301,17 @@ fn the_walk_refuses(rt: HostRuntime) -> Result<(), Fail> {
         Answer::BadNames
     );
     assert_eq!(rt; check(alloc, &sort_clash(alloc)?), Answer::BadNames);
-    assert_eq!(rt; check(alloc, &read_of_bool(alloc)?), Answer::BadNames);
-    assert_eq!(rt; check(alloc, &unbuilt_term(alloc)?), Answer::BadNames);
+    Ok(())
+}
+
+#[test]
+fn the_walk_refuses_terms(rt: HostRuntime) -> Result<(), Fail> {
+    let alloc = rt.alloc();
+    assert_eq!(rt;
+        check(alloc, &sequence_in_a_program(alloc)?),
+        Answer::BadNames
+    );
+    assert_eq!(rt; check(alloc, &length_of_a_number(alloc)?), Answer::BadNames);
+    assert_eq!(rt; check(alloc, &truth_for_a_number(alloc)?), Answer::BadNames);
     Ok(())
 }

@@ -1,5 +1,5 @@
 -- What an answer says of its input.
-use Rattle.std.proofs.Common.{◌≡◌, ◌⊎◌, inl, inr, ℕ, ◌≤◌, length, codes, Bool, true, false, ◌&&◌, IsTrue, List, Option, None, Some, IfSome, Result, Ok, Err, IfOk, sym, ap, subst}
+use Rattle.std.proofs.Common.{◌≡◌, ◌⊎◌, inl, inr, ℕ, ◌≤◌, length, codes, Bool, true, false, ◌&&◌, IsTrue, List, [], Option, None, Some, IfSome, Result, Ok, Err, IfOk, sym, ap, subst}
 use Rattle.std.specs.List.Sorted.{IsStrictlySortedBy}
 use Rattle.std.proofs.lemmas.List.Elements.{All-nil}
 use Rattle.tht_tree.specs.declared.file.Source1.{Source1}
@@ -76,10 +76,10 @@ and_right : (a b : Bool) → (a && b) ≡ true → b ≡ true
 and_right true b e = e
 and_right false b e = cc
 
-pub main_scoped : (file : Source1) → is_well_sorted file ≡ true → body_scoped file.main.sort file.main.body no_locals ≡ true
-main_scoped file e = and_right _ (body_scoped file.main.sort file.main.body no_locals) e
+pub main_scoped : (file : Source1) → is_well_sorted file ≡ true → body_scoped [] file.main.sort file.main.body no_locals ≡ true
+main_scoped file e = and_right _ (body_scoped [] file.main.sort file.main.body no_locals) e
 
-pub nothing_formed : IsFormed no_context
+pub nothing_formed : IsFormed [] no_context
 unfolding IsStrictlySortedBy
 nothing_formed = record { ascending = tt; numbered = All-nil _; atoms = All-nil _; hyps = All-nil _ }
 

@@ -1,17 +1,17 @@
 -- The value of a term by the names of the runner is its value by position.
-use Rattle.std.proofs.Common.{◌≡◌, ℕ, suc, ◌+◌, cond, ◌&&◌, Bool, true, false, List, [], ◌∷◌, map, bytes_eq, Option, Some, None, unwrap_or, refl, sym, ◌∙◌, ap, arith, if◌then◌else◌}
+use Rattle.std.proofs.Common.{◌≡◌, ℕ, suc, ◌+◌, ◌-◌, ◌*◌, ltb, leb, cond, ◌&&◌, ◌||◌, not, Bool, true, false, List, [], ◌∷◌, map, bytes_eq, Option, Some, None, unwrap_or, refl, sym, ◌∙◌, ap, arith, if◌then◌else◌}
 use Rattle.tht_tree.specs.declared.plain.Value.{Value}
 use Rattle.tht_tree.specs.declared.plain.Value.TheVariants as v
-use Rattle.tht_tree.specs.declared.term.Term.{Term}
-use Rattle.tht_tree.specs.declared.term.Term.TheVariants as t
-use Rattle.tht_tree.specs.Values.{Val, is, value_in, nat_in, unit_value, is_small_val, same_value}
-use Rattle.tht_tree.specs.Syntax.{Trm, lit, bound, op, add, eq, Names, position, named, trm, trm_at}
-use Rattle.tht_tree.specs.Terms.{nth, value_of, fits}
-use Rattle.tht_tree.specs.Machine.{no_env, value}
-use Rattle.tht_front.specs.Running.{Named, fitting, both, evaluated, evaluated_at}
+use Rattle.tht_tree.specs.declared.term.Term.{Term, roll-Term, map-Term}
+use Rattle.tht_tree.specs.declared.term.Term.TheOpen.{Term-F}
 use Rattle.tht_tree.specs.declared.term.Term.TheOpen as f
-use Rattle.tht_tree.proofs.TermFolds as F
-use Rattle.tht_tree.proofs.UnbuiltTerms.{is_built, is_built_level, unbuilt}
+use Rattle.tht_tree.specs.Values.{Val, is, value_in, nat_in, bool_in, place_in, unit_value, is_small_val, same_value}
+use Rattle.tht_tree.specs.Syntax.{Trm, bound, len, off, neg, op, add, sub, mul, eq, lt, le, conj, disj, imp, Names, position, named, trm, trm_at}
+use Rattle.tht_tree.specs.Terms.{nth, value_of, fits, offset_by, implies}
+use Rattle.tht_tree.specs.Machine.{no_env, value}
+use Rattle.tht_tree.specs.Rules.Scoping.{sequence_free, sequence_free_at}
+use Rattle.tht_tree.proofs.TermInduction.{fold_level, OfParts, by_parts}
+use Rattle.tht_front.specs.Running.{Named, fitting, one, both, evaluated, evaluated_at}
 
 -- ---- names
 
@@ -47,7 +47,7 @@ from_rest : (vs : List Val) (k : ℕ) (ws : List Value) → From vs k ws → Fro
 unfolding From
 from_rest vs k ws f i = let same : (suc k) + i ≡ k + suc i = omega arith in ap (nth vs) same ∙ f (suc i) ∙ nth_rest ws i
 
-by_position : (vs : List Val) (x : List ℕ) (ys : Names) (k : ℕ) (ws : List Value) → From vs k ws → value_of no_env vs (named x (position k ys x)) ≡ or_unit (found ys ws x)
+by_position : (vs : List Val) (x : List ℕ) (ys : Names) (k : ℕ) (ws : List Value) → From vs k ws → value_of no_env vs (named [] x (position k ys x)) ≡ or_unit (found ys ws x)
 unfolding From
 by_position vs x [] k ws f = refl
 by_position vs x (y ∷ ys) k ws f = go (bytes_eq y x) (by_position vs x ys (suc k) (rest ws) (from_rest vs k ws f))
@@ -55,51 +55,20 @@ by_position vs x (y ∷ ys) k ws f = go (bytes_eq y x) (by_position vs x ys (suc
     here : nth vs k ≡ or_unit (first ws)
     here = let same : k ≡ k + 0 = omega arith in ap (nth vs) same ∙ f 0 ∙ nth_first ws
 
-    go : (c : Bool) → value_of no_env vs (named x (position (suc k) ys x)) ≡ or_unit (found ys (rest ws) x)
-        → value_of no_env vs (named x (cond c (Some k) (position (suc k) ys x))) ≡ or_unit (cond c (first ws) (found ys (rest ws) x))
+    go : (c : Bool) → value_of no_env vs (named [] x (position (suc k) ys x)) ≡ or_unit (found ys (rest ws) x)
+        → value_of no_env vs (named [] x (cond c (Some k) (position (suc k) ys x))) ≡ or_unit (cond c (first ws) (found ys (rest ws) x))
     go true e = here
     go false e = e
 
-pub name_value : (x : List ℕ) (xs : Names) (ws : List Value) → value_of no_env (map is ws) (named x (position 0 xs x)) ≡ is (unwrap_or (found xs ws x) unit_value)
+pub name_value : (x : List ℕ) (xs : Names) (ws : List Value) → value_of no_env (map is ws) (named [] x (position 0 xs x)) ≡ is (unwrap_or (found xs ws x) unit_value)
 unfolding From
 name_value x xs ws = by_position (map is ws) x xs 0 ws (λ i. let same : 0 + i ≡ i = omega arith in ap (nth (map is ws)) same)
 
 -- ---- terms
 
-evaluated-Add : (n : Named) (a b : Term) → evaluated n (F.Add a b) ≡ evaluated_at n (f.Add (evaluated n a) (evaluated n b))
-evaluated-Add n a b = ap (evaluated n) (sym (F.Add-is a b)) ∙ F.at-Add (Option Value) (evaluated_at n) a b
-
-evaluated-Eq : (n : Named) (a b : Term) → evaluated n (F.Eq a b) ≡ evaluated_at n (f.Eq (evaluated n a) (evaluated n b))
-evaluated-Eq n a b = ap (evaluated n) (sym (F.Eq-is a b)) ∙ F.at-Eq (Option Value) (evaluated_at n) a b
-
-trm-Add : (xs : Names) (a b : Term) → trm xs (F.Add a b) ≡ op add (trm xs a) (trm xs b)
-trm-Add xs a b = ap (trm xs) (sym (F.Add-is a b)) ∙ F.at-Add Trm (trm_at xs) a b
-
-trm-Eq : (xs : Names) (a b : Term) → trm xs (F.Eq a b) ≡ op eq (trm xs a) (trm xs b)
-trm-Eq xs a b = ap (trm xs) (sym (F.Eq-is a b)) ∙ F.at-Eq Trm (trm_at xs) a b
-
--- a term whose outermost form is not built is ()
-unit_at : (n : Named) (x : f.Term-F (Option Value)) → is_built_level x ≡ false → evaluated_at n x ≡ Some v.Unit
-unit_at n (f.Num k) e = cc
-unit_at n f.Unit e = cc
-unit_at n (f.Var x) e = cc
-unit_at n (f.Add a b) e = cc
-unit_at n (f.Eq a b) e = cc
-unit_at n _ e = refl
-
-evaluated-unbuilt : (n : Named) (t : Term) → is_built t ≡ false → evaluated n t ≡ Some v.Unit
-evaluated-unbuilt n t e = unbuilt (Option Value) (evaluated_at n) (Some v.Unit) (unit_at n) t e
-
-literal_at : (xs : Names) (x : f.Term-F Trm) → is_built_level x ≡ false → trm_at xs x ≡ lit (is v.Unit)
-literal_at xs (f.Num k) e = cc
-literal_at xs f.Unit e = cc
-literal_at xs (f.Var x) e = cc
-literal_at xs (f.Add a b) e = cc
-literal_at xs (f.Eq a b) e = cc
-literal_at xs _ e = refl
-
-trm-unbuilt : (xs : Names) (t : Term) → is_built t ≡ false → trm xs t ≡ lit (is v.Unit)
-trm-unbuilt xs t e = unbuilt Trm (trm_at xs) (lit (is v.Unit)) (literal_at xs) t e
+both_true : (a b : Bool) → (a && b) ≡ true → (a ≡ true) × (b ≡ true)
+both_true true b e = (refl, e)
+both_true false b e = cc
 
 abbrev if_fits : Bool → Value → Option Value
 if_fits b w = if b then Some w else None
@@ -118,29 +87,88 @@ module _ (vs : List Val) where
   both_is true false s x y r f e = refl
   both_is false d s x y r f e = refl
 
-  name_is : (x : List ℕ) (o : Option ℕ) (w : Value) → value_of no_env vs (named x o) ≡ is w → Means (fitting w) (named x o)
+  one_is : (c s : Bool) (x r : Value) (f : Value → Option Value) → f x ≡ if_fits s r → one f (if_fits c x) ≡ if_fits (c && s) r
+  one_is true s x r f e = e
+  one_is false s x r f e = refl
+
+  name_is : (x : List ℕ) (o : Option ℕ) (w : Value) → value_of no_env vs (named [] x o) ≡ is w → Means (fitting w) (named [] x o)
   name_is x (Some k) w e = record { stored = stored_is (bound k) w e; answer = rw e refl }
   name_is x None w e = let same : w ≡ unit_value = ap value_in (sym e) in rw same (record { stored = refl; answer = refl })
 
-  joined : (o : _) (a b : Trm) (ea eb e : Option Value) (f : Value → Value → Option Value) (w : Value) → Means ea a → Means eb b
-      → value_of no_env vs (op o a b) ≡ is w → f (value vs a) (value vs b) ≡ if_fits (is_small_val (value_of no_env vs (op o a b))) w → e ≡ both f ea eb → Means e (op o a b)
-  joined o a b ea eb e f w ha hb is_w small e_is = record {
-    stored = stored_is (op o a b) w is_w;
-    answer = e_is ∙ rw (ha.answer, hb.answer) (both_is (fits no_env vs a) (fits no_env vs b) (is_small_val (value_of no_env vs (op o a b))) (value vs a) (value vs b) (value vs (op o a b)) f (small ∙ rw is_w refl));
+  -- an operation with one part
+  alone : (u a : Trm) (e : Option Value) (f : Value → Option Value) (w : Value) → Means e a → value_of no_env vs u ≡ is w
+      → fits no_env vs u ≡ (fits no_env vs a && is_small_val (value_of no_env vs u)) → f (value vs a) ≡ if_fits (is_small_val (value_of no_env vs u)) w → Means (one f e) u
+  alone u a e f w h is_w fit small = record {
+    stored = stored_is u w is_w;
+    answer = rw (h.answer, fit) (one_is (fits no_env vs a) (is_small_val (value_of no_env vs u)) (value vs a) (value vs u) f (small ∙ rw is_w refl));
   }
 
-  module _ (n : Named) (xs : Names) (names : (x : List ℕ) → value_of no_env vs (named x (position 0 xs x)) ≡ is (unwrap_or (n x) unit_value)) where
-    pub means : (t : Term) → Means (evaluated n t) (trm xs t)
-    means (t.Num k) = rw (F.at-Num (Option Value) (evaluated_at n) k, F.at-Num Trm (trm_at xs) k) (record { stored = refl; answer = refl })
-    means t.Unit = rw (F.at-Unit (Option Value) (evaluated_at n), F.at-Unit Trm (trm_at xs)) (record { stored = refl; answer = refl })
-    means (t.Var x) = rw (F.at-Var (Option Value) (evaluated_at n) x, F.at-Var Trm (trm_at xs) x) (name_is x (position 0 xs x) (unwrap_or (n x) unit_value) (names x))
-    means (F.Add a b) =
-        rw (evaluated-Add n a b, trm-Add xs a b)
-        (joined add (trm xs a) (trm xs b) (evaluated n a) (evaluated n b) _ (λ x y. fitting (v.Nat (nat_in x + nat_in y)))
-        (v.Nat (nat_in (value vs (trm xs a)) + nat_in (value vs (trm xs b)))) (means a) (means b) refl refl refl)
-    means (F.Eq a b) =
-        rw (evaluated-Eq n a b, trm-Eq xs a b)
-        (let ha = means a in let hb = means b in
-        joined eq (trm xs a) (trm xs b) (evaluated n a) (evaluated n b) _ (λ x y. Some (v.Bool (same_value x y)))
-        (v.Bool (same_value (value vs (trm xs a)) (value vs (trm xs b)))) ha hb (rw (ha.stored, hb.stored) refl) refl refl)
-    means t = rw (evaluated-unbuilt n t refl, trm-unbuilt xs t refl) (record { stored = refl; answer = refl })
+  -- an operation with two parts
+  joined : (o : _) (a b : Trm) (ea eb : Option Value) (f : Value → Value → Option Value) (w : Value) → Means ea a → Means eb b
+      → value_of no_env vs (op o a b) ≡ is w → f (value vs a) (value vs b) ≡ if_fits (is_small_val (value_of no_env vs (op o a b))) w → Means (both f ea eb) (op o a b)
+  joined o a b ea eb f w ha hb is_w small = record {
+    stored = stored_is (op o a b) w is_w;
+    answer = rw (ha.answer, hb.answer) (both_is (fits no_env vs a) (fits no_env vs b) (is_small_val (value_of no_env vs (op o a b))) (value vs a) (value vs b) (value vs (op o a b)) f (small ∙ rw is_w refl));
+  }
+
+  module _ (n : Named) (xs : Names) (names : (x : List ℕ) → value_of no_env vs (named [] x (position 0 xs x)) ≡ is (unwrap_or (n x) unit_value)) where
+    abbrev IsMeant : Term → Type 0
+    IsMeant t = sequence_free t ≡ true → Means (evaluated n t) (trm [] xs t)
+
+    abbrev answer : Term → Option Value
+    answer t = evaluated n t
+
+    abbrev meant : Term → Trm
+    meant t = trm [] xs t
+
+    abbrev stored_at : Term → Value
+    stored_at t = value vs (trm [] xs t)
+
+    abbrev free : Term → Bool
+    free t = sequence_free t
+
+    two : (o : _) (a b : Term) (f : Value → Value → Option Value) (w : Value) → IsMeant a → IsMeant b → (free a && free b) ≡ true
+        → value_of no_env vs (op o (meant a) (meant b)) ≡ is w → f (stored_at a) (stored_at b) ≡ if_fits (is_small_val (value_of no_env vs (op o (meant a) (meant b)))) w
+        → Means (both f (answer a) (answer b)) (op o (meant a) (meant b))
+    two o a b f w h k s is_w small =
+        let both_free = both_true (free a) (free b) s in
+        joined o (meant a) (meant b) (answer a) (answer b) f w (h both_free.0) (k both_free.1) is_w small
+
+    equal : (a b : Term) → IsMeant a → IsMeant b → (free a && free b) ≡ true → Means (both (λ x y. Some (v.Bool (same_value x y))) (answer a) (answer b)) (op eq (meant a) (meant b))
+    equal a b h k s =
+        let both_free = both_true (free a) (free b) s in
+        let left = h both_free.0 in
+        let right = k both_free.1 in
+        joined eq (meant a) (meant b) (answer a) (answer b) (λ x y. Some (v.Bool (same_value x y))) (v.Bool (same_value (stored_at a) (stored_at b))) left right
+        (rw (left.stored, right.stored) refl) refl
+
+    at : (x : Term-F Term) → OfParts IsMeant x → sequence_free_at (map-Term Term Bool sequence_free x) ≡ true
+        → Means (evaluated_at n (map-Term Term (Option Value) (evaluated n) x)) (trm_at [] xs (map-Term Term Trm (trm [] xs) x))
+    at (f.Num k) h s = record { stored = refl; answer = refl }
+    at f.True h s = record { stored = refl; answer = refl }
+    at f.False h s = record { stored = refl; answer = refl }
+    at f.Null h s = record { stored = refl; answer = refl }
+    at f.Nil h s = cc
+    at f.Unit h s = record { stored = refl; answer = refl }
+    at (f.Var x) h s = name_is x (position 0 xs x) (unwrap_or (n x) unit_value) (names x)
+    at (f.Len a) h s = alone (len (meant a)) (meant a) (answer a) (λ x. Some (v.Nat 0)) (v.Nat 0) (h s) (rw (h s).stored refl) refl (rw (h s).stored refl)
+    at (f.Offset a k) h s =
+        alone (off k (meant a)) (meant a) (answer a) (λ x. fitting (v.Loc (offset_by k (place_in x)))) (v.Loc (offset_by k (place_in (stored_at a)))) (h s) refl refl refl
+    at (f.Not a) h s = alone (neg (meant a)) (meant a) (answer a) (λ x. Some (v.Bool (not (bool_in x)))) (v.Bool (not (bool_in (stored_at a)))) (h s) refl refl refl
+    at (f.Mul a b) h s = two mul a b (λ x y. fitting (v.Nat (nat_in x * nat_in y))) (v.Nat (nat_in (stored_at a) * nat_in (stored_at b))) h.0 h.1 s refl refl
+    at (f.Add a b) h s = two add a b (λ x y. fitting (v.Nat (nat_in x + nat_in y))) (v.Nat (nat_in (stored_at a) + nat_in (stored_at b))) h.0 h.1 s refl refl
+    at (f.Sub a b) h s = two sub a b (λ x y. fitting (v.Nat (nat_in x - nat_in y))) (v.Nat (nat_in (stored_at a) - nat_in (stored_at b))) h.0 h.1 s refl refl
+    at (f.Cons a b) h s = cc
+    at (f.Cat a b) h s = cc
+    at (f.Eq a b) h s = equal a b h.0 h.1 s
+    at (f.Lt a b) h s = two lt a b (λ x y. Some (v.Bool (ltb (nat_in x) (nat_in y)))) (v.Bool (ltb (nat_in (stored_at a)) (nat_in (stored_at b)))) h.0 h.1 s refl refl
+    at (f.Le a b) h s = two le a b (λ x y. Some (v.Bool (leb (nat_in x) (nat_in y)))) (v.Bool (leb (nat_in (stored_at a)) (nat_in (stored_at b)))) h.0 h.1 s refl refl
+    at (f.And a b) h s = two conj a b (λ x y. Some (v.Bool (bool_in x && bool_in y))) (v.Bool (bool_in (stored_at a) && bool_in (stored_at b))) h.0 h.1 s refl refl
+    at (f.Or a b) h s = two disj a b (λ x y. Some (v.Bool (bool_in x || bool_in y))) (v.Bool (bool_in (stored_at a) || bool_in (stored_at b))) h.0 h.1 s refl refl
+    at (f.Imp a b) h s =
+        two imp a b (λ x y. Some (v.Bool (implies (bool_in x) (bool_in y)))) (v.Bool (implies (bool_in (stored_at a)) (bool_in (stored_at b)))) h.0 h.1 s refl refl
+
+    -- a term of a program has the value that the runner gives it
+    pub means : (t : Term) → sequence_free t ≡ true → Means (evaluated n t) (trm [] xs t)
+    means = by_parts IsMeant (λ x h s.
+        rw (fold_level (evaluated_at n) x, fold_level (trm_at [] xs) x) (at x h (sym (fold_level sequence_free_at x) ∙ s)))

@@ -21,6 +21,12 @@ use Rattle.tht_tree.specs.Terms.{fits}
 use Rattle.tht_tree.specs.Machine.{Mem, Prog, Ended, FrontBig, Leaf, closed, no_env, value, Said, Next, Cannot, Big, Longer, Moved, step_of}
 use Rattle.tht_tree.specs.Runs.{State, entered, step_in, on_moved, follow, start_of, run_of, IsLowest, EndsLowest, GoesLowest}
 use Rattle.tht_tree.specs.Soundness.{IsSafe}
+use Rattle.tht_tree.specs.declared.plain.Sort.{Sort}
+use Rattle.tht_tree.specs.Rules.Context.{Scope, no_locals}
+use Rattle.tht_tree.specs.Rules.Scoping.{is_of, program_sort, is_built_give, stmt_scope, stmts_scoped, end_scoped, is_well_sorted}
+use Rattle.hoare_rules.proofs.BodySound.{next_scope, body_is_scoped}
+use Rattle.hoare_rules.proofs.Choices.{both_true}
+use Rattle.hoare_rules.proofs.Scopes.{program_free}
 use Rattle.tht_front.specs.Running.{Store, went, too_big, fault, evaluated, evaluated_at, carried}
 use Rattle.tht_front.specs.Carrying.{returned, end_said}
 use Rattle.tht_front.specs.Outcomes.{RunEnds, RunFaults}
@@ -71,13 +77,14 @@ end_at : (b : Bool) (w : Value) (o : Option Value) (t : State) → o ≡ (if b t
 end_at true w o t same tree = rw same tree
 end_at false w o t same tree = let f : step_in t 0 ≡ Big = rw tree refl in rw same (lowest t Big f (λ z. cc), f)
 
-finish : (k : EndKind) (xs : Names) (ws : List Value) (st : Store) (t : State) → StandsFor st xs ws t.mem → t.tree ≡ Leaf 0 (closed (map is ws) (end_code k xs))
-    → EndsLowest t (end_said (evaluated st.named (returned k)))
-finish (e.Ret u g) xs ws st t stands tree =
+finish : (k : EndKind) (r : Sort) (scope : Scope) (xs : Names) (ws : List Value) (st : Store) (t : State) → end_scoped [] r k scope ≡ true → StandsFor st xs ws t.mem
+    → t.tree ≡ Leaf 0 (closed (map is ws) (end_code [] k xs)) → EndsLowest t (end_said (evaluated st.named (returned k)))
+finish (e.Ret u g) r scope xs ws st t scoped stands tree =
     let vs : List Val = map is ws in
-    let h : Means vs (evaluated st.named u) (trm xs u) = terms 0 t.mem (λ ys. ret (trm ys u)) st xs ws stands u in
-    end_at (fits no_env vs (trm xs u)) (value vs (trm xs u)) (evaluated st.named u) t h.answer tree
-finish _ xs ws st t stands tree = end_at true unit_value (evaluated st.named term.Unit) t (at-Unit (Option Value) (evaluated_at st.named)) tree
+    let plain = program_free scope u r (both_true (is_built_give g.kind) (is_of r (program_sort [] scope u)) scoped).1 in
+    let h : Means vs (evaluated st.named u) (trm [] xs u) = terms 0 t.mem (λ ys. ret (trm [] ys u)) st xs ws stands u plain in
+    end_at (fits no_env vs (trm [] xs u)) (value vs (trm [] xs u)) (evaluated st.named u) t h.answer tree
+finish _ r scope xs ws st t scoped stands tree = end_at true unit_value (evaluated st.named term.Unit) t (at-Unit (Option Value) (evaluated_at st.named)) tree
 
 drop_all : (i : ℕ) (xs : List Stmt) → length xs ≤ i → drop i xs ≡ []
 drop_all zero [] l = refl
@@ -95,7 +102,10 @@ no_cells (Cell (suc a) i) = refl
 
 module _ (file : Source1) (budget : ℕ) where
   abbrev last : Names → Code
-  last = end_code (end_of file.main.body)
+  last = end_code [] (end_of file.main.body)
+
+  abbrev ends : Scope → Bool
+  ends = end_scoped [] file.main.sort (end_of file.main.body)
 
   -- after so many steps branch 0 is about to carry out these statements, with what the runner keeps
   pub record About (steps : ℕ) (st : Store) (stmts : List Stmt) : Type 0 where
@@ -104,12 +114,14 @@ module _ (file : Source1) (budget : ℕ) where
     pub ws : List Value
     pub steps_so : Steps steps (start_of file budget) state
     pub left : state.left + steps ≡ budget
-    pub tree : state.tree ≡ Leaf 0 (closed (map is ws) (stmts_code stmts last xs))
+    pub tree : state.tree ≡ Leaf 0 (closed (map is ws) (stmts_code [] stmts last xs))
     pub stands : StandsFor st xs ws state.mem
+    pub scope : Scope
+    pub scoped : stmts_scoped [] stmts ends scope ≡ true
 
-  pub begins : (st : Store) → st ≡ record { named = λ x. None; cells = [] } → About 0 st (stmts_of file.main.body)
+  pub begins : is_well_sorted file ≡ true → (st : Store) → st ≡ record { named = λ x. None; cells = [] } → About 0 st (stmts_of file.main.body)
   unfolding Steps
-  begins st same = let P : Store → Type 0 = λ u. About 0 u (stmts_of file.main.body) in subst P (sym same) (record {
+  begins sorted st same = let P : Store → Type 0 = λ u. About 0 u (stmts_of file.main.body) in subst P (sym same) (record {
     state = start_of file budget;
     xs = [];
     ws = [];
@@ -117,6 +129,8 @@ module _ (file : Source1) (budget : ℕ) where
     left = omega arith;
     tree = refl;
     stands = record { named = λ x. refl; heap = no_cells; made = refl };
+    scope = no_locals;
+    scoped = body_is_scoped file sorted;
   })
 
   -- the run so far
@@ -133,10 +147,14 @@ module _ (file : Source1) (budget : ℕ) where
 
   module _ (steps : ℕ) (st : Store) (x : Stmt) (ss : List Stmt) (here : About steps st (x ∷ ss)) where
     abbrev next : Names → Code
-    next = stmts_code ss last
+    next = stmts_code [] ss last
 
     abbrev front : Prog
-    front = closed (map is here.ws) (stmt_code x.kind here.xs next)
+    front = closed (map is here.ws) (stmt_code [] x.kind here.xs next)
+
+    -- the scope after the statement
+    after : (s : Scope) × (stmt_scope [] x.kind here.scope ≡ Some s) × (stmts_scoped [] ss ends s ≡ true)
+    after = next_scope (stmt_scope [] x.kind here.scope) (stmts_scoped [] ss ends) here.scoped
 
     -- the step, with so many left
     step_is : (n : ℕ) → n ≡ here.state.left → step_in here.state 0 ≡ step_of [] 0 n here.state.mem (Leaf 0 front)
@@ -144,7 +162,7 @@ module _ (file : Source1) (budget : ℕ) where
 
     -- what the step says, where one is left at least
     said : (n : ℕ) → suc n ≡ here.state.left → Follows (carried x.kind st) next (step_in here.state 0)
-    said n same = rw (step_is (suc n) same) (follows n here.state.mem next st here.xs here.ws here.stands x.kind)
+    said n same = rw (step_is (suc n) same) (follows n here.state.mem next st here.xs here.ws here.stands x.kind here.scope after.0 after.1)
 
     one_left : steps < budget → (n : ℕ) × (suc n ≡ here.state.left)
     one_left less = (here.state.left - 1, let l = here.left in omega arith)
@@ -165,6 +183,8 @@ module _ (file : Source1) (budget : ℕ) where
           left = omega arith;
           tree = f.5;
           stands = record { named = f.6.named; heap = f.6.heap; made = f.6.made };
+          scope = after.0;
+          scoped = after.2;
         }
 
     pub too_big_at : steps < budget → carried x.kind st ≡ too_big → RunEnds file budget (BigEnd 0) steps
@@ -179,7 +199,7 @@ module _ (file : Source1) (budget : ℕ) where
         let f : IsSafe (step_in here.state 0) → ⊥ = subst (λ c. Follows c next (step_in here.state 0)) what (said n.0 n.1) in
         record { order = replicate steps 0; last = here.state; runs = so_far steps here.state here.steps_so; left = here.state.left; fault = f }
 
-    none_left : (k : StmtKind) (vs : List Val) (xs : Names) (m : Mem) → step_of [] 0 0 m (Leaf 0 (closed vs (stmt_code k xs next))) ≡ Longer
+    none_left : (k : StmtKind) (vs : List Val) (xs : Names) (m : Mem) → step_of [] 0 0 m (Leaf 0 (closed vs (stmt_code [] k xs next))) ≡ Longer
     none_left (s.Read y r t i h p) vs xs m = refl
     none_left (s.Write t u i p) vs xs m = refl
     none_left (s.Alloc y (t ∷ [])) vs xs m = refl
@@ -195,7 +215,7 @@ module _ (file : Source1) (budget : ℕ) where
 
   pub finished : (steps : ℕ) (st : Store) → About steps st [] → RunEnds file budget (end_said (evaluated st.named (returned (end_of file.main.body)))) steps
   finished steps st here =
-      ended steps here.state _ here.steps_so here.left (finish (end_of file.main.body) here.xs here.ws st here.state here.stands here.tree)
+      ended steps here.state _ here.steps_so here.left (finish (end_of file.main.body) file.main.sort here.scope here.xs here.ws st here.state here.scoped here.stands here.tree)
 
   -- the statement at hand, and those after it
   pub now_at : (steps : ℕ) (st : Store) (xs ys : List Stmt) (i : ℕ) (x : Stmt) → ys ≡ xs → i < length ys → x ≡ get_or ys i x → About steps st (drop i xs) → About steps st (x ∷ drop (i + 1) xs)

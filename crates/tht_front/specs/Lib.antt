@@ -1,4 +1,5 @@
 pub mod Running
+pub mod Operations
 pub mod Carrying
 pub mod Outcomes
 pub mod Decided

@@ -1,11 +1,11 @@
--- What the runner keeps and does, as functions of plain values. A term that is not built yet has the value (), and a statement
--- that is not built yet is a fault: no accepted file has one.
-use Rattle.std.specs.Prelude.{ℕ, zero, ◌+◌, Bool, true, false, List, [], ◌∷◌, ◌++◌, length, slice_get, slice_set, Option, Some, None, unwrap_or, bytes_eq, if◌then◌else◌}
+-- What the runner keeps and does, as functions of plain values. No program has a term that makes a sequence, and such a term has
+-- no value here; a statement that is not built yet is a fault, and no accepted file has one.
+use Rattle.std.specs.Prelude.{ℕ, zero, ◌+◌, ◌-◌, ◌*◌, nat_lt, nat_le, Bool, true, false, not, ◌&&◌, ◌||◌, List, [], ◌∷◌, ◌++◌, length, slice_get, slice_set, Option, Some, None, unwrap_or, bytes_eq, if◌then◌else◌}
 use Rattle.std.specs.BTreeMap.{get_by_text, BTreeMap}
 use Rattle.std.specs.declared.string.String.{String}
 use Rattle.std.specs.declared.alloc.Global.{Global}
 use Rattle.tht_tree.specs.declared.plain.Place.{Place}
-use Rattle.tht_tree.specs.declared.plain.Place.TheVariants.{Cell}
+use Rattle.tht_tree.specs.declared.plain.Place.TheVariants.{Null, Cell}
 use Rattle.tht_tree.specs.declared.plain.Sort.{Sort}
 use Rattle.tht_tree.specs.declared.plain.Value.{Value}
 use Rattle.tht_tree.specs.declared.plain.Value.TheVariants as v
@@ -13,7 +13,8 @@ use Rattle.tht_tree.specs.declared.term.Term.{Term, fold-Term}
 use Rattle.tht_tree.specs.declared.term.Term.TheOpen as t
 use Rattle.tht_tree.specs.declared.body.StmtKind.{StmtKind}
 use Rattle.tht_tree.specs.declared.body.StmtKind.TheVariants as s
-use Rattle.tht_tree.specs.Values.{is_small, nat_in, place_in, has_sort, same_value, unit_value}
+use Rattle.tht_tree.specs.Values.{is_small, nat_in, bool_in, place_in, has_sort, same_value, unit_value}
+use Rattle.tht_tree.specs.Terms.{offset_by, implies}
 
 -- the value of each name, where it has one
 abbrev pub Named : Type 0
@@ -26,19 +27,39 @@ values_in m x = get_by_text m x
 abbrev pub fitting : Value → Option Value
 fitting w = if is_small w then Some w else None
 
+abbrev pub one : (Value → Option Value) → Option Value → Option Value
+one f (Some a) = f a
+one f None = None
+
 abbrev pub both : (Value → Value → Option Value) → Option Value → Option Value → Option Value
 both f (Some a) (Some b) = f a b
 both f _ _ = None
 
+-- a value that a program holds is no sequence, and counts as the empty one
 abbrev pub evaluated_at : Named → t.Term-F (Option Value) → Option Value
 evaluated_at named (t.Num n) = fitting (v.Nat n)
+evaluated_at named t.True = Some (v.Bool true)
+evaluated_at named t.False = Some (v.Bool false)
+evaluated_at named t.Null = Some (v.Loc Null)
+evaluated_at named t.Nil = None
 evaluated_at named t.Unit = Some v.Unit
 evaluated_at named (t.Var x) = fitting (unwrap_or (named x) unit_value)
+evaluated_at named (t.Len a) = one (λ x. Some (v.Nat 0)) a
+evaluated_at named (t.Offset a k) = one (λ x. fitting (v.Loc (offset_by k (place_in x)))) a
+evaluated_at named (t.Mul a b) = both (λ x y. fitting (v.Nat (nat_in x * nat_in y))) a b
 evaluated_at named (t.Add a b) = both (λ x y. fitting (v.Nat (nat_in x + nat_in y))) a b
+evaluated_at named (t.Sub a b) = both (λ x y. fitting (v.Nat (nat_in x - nat_in y))) a b
+evaluated_at named (t.Cons a b) = None
+evaluated_at named (t.Cat a b) = None
 evaluated_at named (t.Eq a b) = both (λ x y. Some (v.Bool (same_value x y))) a b
-evaluated_at named _ = Some v.Unit
+evaluated_at named (t.Lt a b) = both (λ x y. Some (v.Bool (nat_lt (nat_in x) (nat_in y)))) a b
+evaluated_at named (t.Le a b) = both (λ x y. Some (v.Bool (nat_le (nat_in x) (nat_in y)))) a b
+evaluated_at named (t.Not a) = one (λ x. Some (v.Bool (not (bool_in x)))) a
+evaluated_at named (t.And a b) = both (λ x y. Some (v.Bool (bool_in x && bool_in y))) a b
+evaluated_at named (t.Or a b) = both (λ x y. Some (v.Bool (bool_in x || bool_in y))) a b
+evaluated_at named (t.Imp a b) = both (λ x y. Some (v.Bool (implies (bool_in x) (bool_in y)))) a b
 
--- the value of a term, if it and each part of it fit
+-- the value of a term of a program, if it and each part of it fit
 abbrev pub evaluated : Named → Term → Option Value
 evaluated named = fold-Term (Option Value) (evaluated_at named)
 

@@ -1,5 +1,6 @@
 // Runs of a file on one branch.
-ghost use Rattle.std.specs.Prelude.{◌≡◌, IfOk};
+ghost use Rattle.std.specs.Prelude.{◌≡◌, true, IfOk};
+ghost use Rattle.tht_tree.specs.Rules.Scoping.{is_well_sorted};
 ghost use Rattle.tht_front.specs.Running.{evaluated};
 ghost use Rattle.tht_front.specs.Carrying.{end_said, returned, store_of};
 ghost use Rattle.tht_front.specs.Outcomes.{Shows};
@@ -14,6 +15,8 @@ use tht_tree::run::End;
 
 /// Carries out main's statements one after the other, at most so many of them, and then its end.
 pub fn run(alloc: Global, file: &Source1, budget: u32) -> Result<Course, AllocError>
+    // No term of the program makes a sequence.
+    requires { is_well_sorted file.now ≡ true }
     ensures { IfOk result (Shows file.now budget) }
 {
     let body = file.main.body.get();

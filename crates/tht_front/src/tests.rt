@@ -1,9 +1,14 @@
 // The worked cases of the top call, over a source and a sink in memory.
 use crate::tht_alone;
+use crate::values::evaluate;
+use sqlite_items::Boxed;
 use std::alloc::{AllocError, Global};
+use std::collections::BTreeMap;
 use std::test::Fail;
 use tht_ports::{MemSink, MemSource};
+use tht_tree::plain::{Name, Place, Value};
 use tht_tree::status::Status;
+use tht_tree::term::Term;
 
 const FIRST: &[u8] = b"tht 1
 main r : nat { emp } {
@@ -193,5 +198,137 @@ fn a_failed_push_is_a_write_fault(rt: HostRuntime) -> Result<(), Fail> {
         Status::WriteFault
     );
     assert_eq!(rt; sink.bytes(), b"end ".as_slice());
+    Ok(())
+}
+
+// Terms with their sorts and their values. Where a part does not fit the machine there is no value. 2^32 is 4294967296, and
+// (2^32 - 1) * (2^32 + 1) is 2^64 - 1.
+const TERMS: &[(&str, &str, Option<&str>)] = &[
+    ("nat", "0 - 5", Some("0")),
+    ("nat", "7 - 5", Some("2")),
+    ("nat", "2 + 3 * 4", Some("14")),
+    (
+        "nat",
+        "4294967295 * 4294967297",
+        Some("18446744073709551615"),
+    ),
+    ("nat", "4294967296 * 4294967296", None),
+    ("nat", "18446744073709551615 + 1", None),
+    ("nat", "(18446744073709551615 + 1) - 1", None),
+    ("bool", "3 < 3", Some("false")),
+    ("bool", "2 < 3", Some("true")),
+    ("bool", "3 <= 3", Some("true")),
+    ("bool", "4 <= 3", Some("false")),
+    ("bool", "0 - 5 = 0", Some("true")),
+    ("bool", "true = false", Some("false")),
+    ("bool", "() = ()", Some("true")),
+    ("bool", "null.3 = null", Some("true")),
+    ("bool", "not true", Some("false")),
+    ("bool", "true and false", Some("false")),
+    ("bool", "false or true", Some("true")),
+    ("bool", "false imp false", Some("true")),
+    ("bool", "true imp false", Some("false")),
+    ("bool", "false and 18446744073709551615 + 1 = 0", None),
+    ("bool", "true or 18446744073709551615 + 1 = 0", None),
+    ("bool", "false imp 18446744073709551615 + 1 = 0", None),
+    ("loc", "null.7", Some("null")),
+];
+
+fn returning(alloc: Global, sort: &str, term: &str) -> Result<Vec<u8>, AllocError> {
+    let mut text = String::new(alloc);
+    text.push_str("tht 1 main r : ")?;
+    text.push_str(sort)?;
+    text.push_str(" { emp } { ret ")?;
+    text.push_str(term)?;
+    text.push_str(" by emp }")?;
+    Ok(text.into_bytes())
+}
+
+fn report_of(alloc: Global, value: Option<&str>) -> Result<Vec<u8>, AllocError> {
+    let mut text = String::new(alloc);
+    match value {
+        Some(value) => {
+            text.push_str("end done\nresult ")?;
+            text.push_str(value)?;
+        }
+        None => text.push_str("end big 0")?,
+    }
+    text.push_str("\nevents 0\ncost 0\naborts 0\norder\n")?;
+    Ok(text.into_bytes())
+}
+
+// Whether a run of the source writes this output.
+fn writes(alloc: Global, source: Vec<u8>, output: &[u8]) -> Result<bool, AllocError> {
+    let words = words_of(alloc, &["run", "--workers", "1"])?;
+    let mut source = MemSource::new(source, Vec::new(alloc));
+    let mut sink = MemSink::new(alloc, 100, Vec::new(alloc)).map_err(no_memory)?;
+    let _ = tht_alone(alloc, &words, &mut source, &mut sink);
+    Ok(sink.bytes() == output)
+}
+
+fn has_value(alloc: Global, row: (&str, &str, Option<&str>)) -> Result<bool, AllocError> {
+    let (sort, term, value) = row;
+    let source = returning(alloc, sort, term)?;
+    let output = report_of(alloc, value)?;
+    writes(alloc, source, &output)
+}
+
+#[test]
+fn terms_have_their_values(rt: HostRuntime) -> Result<(), Fail> {
+    let alloc = rt.alloc();
+    for row in TERMS {
+        assert_eq!(rt; has_value(alloc, *row)?, true);
+    }
+    Ok(())
+}
+
+const OFFSET: &[u8] = b"tht 1
+main r : loc { emp } {
+  x <- alloc (true);
+  b : bool <- read x at 1 as h by refl;
+  free x at 1 by refl;
+  ret x.3.4 by emp
+}
+";
+
+#[test]
+fn an_offset_moves_the_index(rt: HostRuntime) -> Result<(), Fail> {
+    let alloc = rt.alloc();
+    let output = b"end done\nresult @0.7\nevents 3\ncost 3\naborts 0\norder\n0*3\n";
+    assert_eq!(rt; writes(alloc, OFFSET.to_vec(alloc)?, output)?, true);
+    Ok(())
+}
+
+// `x.k`
+fn offset(alloc: Global, cells: u8) -> Result<Term, AllocError> {
+    let name = Name::new(String::from_str(alloc, "x")?);
+    let place = Boxed::new(alloc, Term::Var(name))?;
+    Ok(Term::Offset(place, cells))
+}
+
+// The value of `x.k` where x is the cell with the last index that the machine has.
+fn past_the_last(alloc: Global, cells: u8) -> Result<Option<Value>, AllocError> {
+    let mut names = BTreeMap::new(alloc);
+    let last = Place::Cell {
+        arena: 0,
+        index: u64::MAX,
+    };
+    names.insert(String::from_str(alloc, "x")?, Value::Loc(last))?;
+    Ok(evaluate(&offset(alloc, cells)?, &names))
+}
+
+#[test]
+fn an_index_past_the_machine_is_big(rt: HostRuntime) -> Result<(), Fail> {
+    let alloc = rt.alloc();
+    assert_eq!(rt; past_the_last(alloc, 0)?.is_some(), true);
+    assert_eq!(rt; past_the_last(alloc, 1)?.is_none(), true);
+    Ok(())
+}
+
+#[test]
+fn a_sequence_is_of_the_logic_alone(rt: HostRuntime) -> Result<(), Fail> {
+    let alloc = rt.alloc();
+    let source = returning(alloc, "nat", "len (1 :: nil)")?;
+    assert_eq!(rt; writes(alloc, source, b"text later\n")?, true);
     Ok(())
 }

@@ -11,7 +11,7 @@ pub mod Moves
 pub mod Runs
 pub mod TermFolds
 pub mod AssnFolds
-pub mod UnbuiltTerms
+pub mod TermInduction
 pub mod TermValues
 pub mod SameTerm
 pub mod Rows

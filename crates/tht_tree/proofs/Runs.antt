@@ -1,7 +1,7 @@
 -- What keeps for every number of steps from the start is sound.
 use Rattle.std.proofs.Common.{◌≡◌, ℕ, suc, List, [], ◌∷◌, ◌++◌, refl, ap, subst, inl, inr, Some, Option, arith}
 use Rattle.tht_tree.specs.declared.file.Source1.{Source1}
-use Rattle.tht_tree.specs.Syntax.{code}
+use Rattle.tht_tree.specs.Syntax.{code, root_names}
 use Rattle.tht_tree.specs.Heaps.{nothing, private_part, kept, if_own}
 use Rattle.tht_tree.specs.Machine.{Mem, Tree, Leaf, closed, no_env, Moved, Said, Next, Cannot, Big, Longer, Touch, Wrong, step_of, branches}
 use Rattle.tht_tree.specs.Runs.{State, step_in, entered, on_moved, follow, start_of}
@@ -69,10 +69,10 @@ module _ (I : Assertion) (Q : Post) where
 
 -- main's body keeps from the empty heap
 abbrev pub StartKeeps : Source1 → ℕ → Type 0
-StartKeeps file k = Keeps no_invariant k [] (Leaf 0 (closed [] (code file.main.body []))) nothing (post_of no_env file.main.result file.main.post)
+StartKeeps file k = Keeps no_invariant k [] (Leaf 0 (closed [] (code (root_names file) file.main.body []))) nothing (post_of (root_names file) no_env file.main.result file.main.post)
 
 module _ (file : Source1) (keeps : (k : ℕ) → StartKeeps file k) where
-  start_runs : (budget : ℕ) → Runs no_invariant (post_of no_env file.main.result file.main.post) (start_of file budget)
+  start_runs : (budget : ℕ) → Runs no_invariant (post_of (root_names file) no_env file.main.result file.main.post) (start_of file budget)
   start_runs budget = record {
     keeps = keeps;
     stands = record {

@@ -16,9 +16,9 @@ use Rattle.tht_tree.specs.Rules.Context.{Scope, Context}
 abbrev pub Covers : Names → Scope → Type 0
 Covers xs scope = (x : List ℕ) (s : Sort) → scope x ≡ Some (Variable s) → Contains xs x
 
--- From every environment and private heap that satisfy the context, a branch at work on the body, with the environment's
--- values for its variables, keeps to the postcondition for every number of steps.
-abbrev pub BodyKeeps : Context → Body → Post → Type 0
-BodyKeeps c body post =
-    (k b : ℕ) (above : List ℕ) (env : Env) (xs : Names) (h : Heap) → Covers xs c.scope → SatisfiesState env c h
-    → Keeps no_invariant k above (Leaf b (closed (map env xs) (code body xs))) h (post_of env post.result post.assn)
+-- Where these are the roots: from every environment and private heap that satisfy the context, a branch at work on the body, with
+-- the environment's values for its variables, keeps to the postcondition for every number of steps.
+abbrev pub BodyKeeps : Names → Context → Body → Post → Type 0
+BodyKeeps roots c body post =
+    (k b : ℕ) (above : List ℕ) (env : Env) (xs : Names) (h : Heap) → Covers xs c.scope → SatisfiesState roots env c h
+    → Keeps no_invariant k above (Leaf b (closed (map env xs) (code roots body xs))) h (post_of roots env post.result post.assn)

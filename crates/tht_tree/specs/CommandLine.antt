@@ -19,11 +19,12 @@ use Rattle.tht_tree.specs.Tokens as token
 use Rattle.tht_tree.specs.Splitting as split
 use Rattle.tht_tree.specs.Faults as fault
 use Rattle.tht_tree.specs.Spelling.{IsSpelled, FaultsInSplitting, FaultsInSpelling}
+use Rattle.tht_tree.specs.Syntax.{root_names}
 use Rattle.tht_tree.specs.Layout.{layout}
 use Rattle.tht_tree.specs.Rules.Scoping.{is_well_sorted}
 use Rattle.tht_tree.specs.Runs.{State, start_of, run_of, cost_of, Ends, GoesLowest}
 use Rattle.tht_tree.specs.Soundness.{IsSound}
-use Rattle.tht_tree.specs.Texts.{fault_text, report_text, root_names}
+use Rattle.tht_tree.specs.Texts.{fault_text, report_text}
 
 -- ---- statuses
 

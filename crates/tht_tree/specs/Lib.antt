@@ -18,6 +18,8 @@ pub mod Faults
 pub mod Spelling
 pub mod Layout
 pub mod Rules
+pub mod Normal
 pub mod Bodies
 pub mod Texts
+pub mod Walk
 pub mod CommandLine

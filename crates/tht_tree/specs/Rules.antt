@@ -4,3 +4,9 @@ pub mod Scoping
 pub mod Commands
 pub mod Formed
 pub mod Files
+pub mod Refusals
+pub mod Shapes
+pub mod Known
+pub mod Inequalities
+pub mod Certificates
+pub mod Proofs

@@ -4,7 +4,7 @@ use Rattle.tht_tree.specs.declared.file.Source1.{Source1}
 use Rattle.tht_tree.specs.declared.run.End.{End}
 use Rattle.tht_tree.specs.declared.run.End.TheVariants.{Done, Spent}
 use Rattle.tht_tree.specs.declared.run.End.TheVariants.{Big as EndBig}
-use Rattle.tht_tree.specs.Syntax.{code}
+use Rattle.tht_tree.specs.Syntax.{code, root_names}
 use Rattle.tht_tree.specs.Heaps.{nothing}
 use Rattle.tht_tree.specs.Machine.{Mem, Tree, Leaf, Ended, closed, Said, Next, Cannot, Big, Longer, Moved, step_of, raised}
 
@@ -35,7 +35,7 @@ follow s (b ∷ bs) = on_moved (step_in s b) (λ r. follow (entered s b r) bs)
 abbrev pub start_of : Source1 → ℕ → State
 start_of file budget = record {
   mem = record { heap = nothing; version = λ p. 0; entry = 1; made = λ b. 0; next_branch = 1 };
-  tree = Leaf 0 (closed [] (code file.main.body []));
+  tree = Leaf 0 (closed [] (code (root_names file) file.main.body []));
   steps = λ b. 0;
   left = budget;
 }

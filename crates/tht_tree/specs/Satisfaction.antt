@@ -8,9 +8,9 @@ use Rattle.tht_tree.specs.declared.plain.Value.TheVariants as v
 use Rattle.tht_tree.specs.declared.assn.Assn.{Assn}
 use Rattle.tht_tree.specs.declared.state.Hyp.{Hyp}
 use Rattle.tht_tree.specs.declared.state.Local.TheVariants.{Variable}
-use Rattle.tht_tree.specs.Values.{Val, is, Env, has_sort}
-use Rattle.tht_tree.specs.Syntax.{Asn, emp, own, asn, trm}
-use Rattle.tht_tree.specs.Terms.{value_of}
+use Rattle.tht_tree.specs.Values.{Val, is, Env, has_sort_val}
+use Rattle.tht_tree.specs.Syntax.{Names, Asn, emp, own, asn}
+use Rattle.tht_tree.specs.Terms.{value_of, value}
 use Rattle.tht_tree.specs.Heaps.{Heap, Joins, IsEmpty, IsCell}
 use Rattle.tht_tree.specs.Heaps as heap
 use Rattle.tht_tree.specs.Rules.Context.{Context, Scope}
@@ -22,21 +22,21 @@ Satisfies env vs (own t u) h =
     (b : ℕ) × (p : Place) × (w : Value) × (p ≢ Null) × (value_of env vs t ≡ is (v.Loc p)) × (value_of env vs u ≡ is w) × IsCell h p (heap.own b w)
 
 -- the heap is a disjoint union of heaps, one for each atom
-abbrev pub AtomsHold : Env → List (ℕ × Assn) → Heap → Type 0
-AtomsHold env [] h = IsEmpty h
-AtomsHold env (a ∷ rest) h = (x y : Heap) × Joins x y h × Satisfies env [] (asn [] a.1) x × AtomsHold env rest y
+abbrev pub AtomsHold : Names → Env → List (ℕ × Assn) → Heap → Type 0
+AtomsHold roots env [] h = IsEmpty h
+AtomsHold roots env (a ∷ rest) h = (x y : Heap) × Joins x y h × Satisfies env [] (asn roots [] a.1) x × AtomsHold roots env rest y
 
 -- each hypothesis is true
-abbrev pub HypsHold : Env → List Hyp → Type 0
-HypsHold env [] = Unit {0}
-HypsHold env (h ∷ rest) = (value_of env [] (trm [] h.formula) ≡ is (v.Bool true)) × HypsHold env rest
+abbrev pub HypsHold : Names → Env → List Hyp → Type 0
+HypsHold roots env [] = Unit {0}
+HypsHold roots env (h ∷ rest) = (value roots env h.formula ≡ is (v.Bool true)) × HypsHold roots env rest
 
 -- each variable in scope has a value of its sort
 abbrev pub HasSorts : Env → Scope → Type 0
-HasSorts env scope = (x : List ℕ) (s : Sort) → scope x ≡ Some (Variable s) → (w : Value) × (env x ≡ is w) × (has_sort s w ≡ true)
+HasSorts env scope = (x : List ℕ) (s : Sort) → scope x ≡ Some (Variable s) → has_sort_val s (env x) ≡ true
 
--- the environment and the heap satisfy what the checker knows
-pub record SatisfiesState (env : Env) (known : Context) (h : Heap) : Type 0 where
+-- the environment and the heap satisfy what the checker knows, where these are the roots
+pub record SatisfiesState (roots : Names) (env : Env) (known : Context) (h : Heap) : Type 0 where
   pub sorts : HasSorts env known.scope
-  pub hyps : HypsHold env known.hyps
-  pub atoms : AtomsHold env known.atoms h
+  pub hyps : HypsHold roots env known.hyps
+  pub atoms : AtomsHold roots env known.atoms h

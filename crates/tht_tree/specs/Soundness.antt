@@ -6,7 +6,7 @@ use Rattle.tht_tree.specs.declared.plain.Value.{Value}
 use Rattle.tht_tree.specs.declared.assn.Assn.{Assn}
 use Rattle.tht_tree.specs.declared.file.Source1.{Source1}
 use Rattle.tht_tree.specs.Values.{is, Env, bind}
-use Rattle.tht_tree.specs.Syntax.{emp, asn}
+use Rattle.tht_tree.specs.Syntax.{Names, root_names, emp, asn}
 use Rattle.tht_tree.specs.Heaps.{Heap, Held, own, Joins, shared_part, private_part}
 use Rattle.tht_tree.specs.Satisfaction.{Satisfies}
 use Rattle.tht_tree.specs.Machine.{Mem, Tree, Leaf, Ended, Said, Next, Touch, Wrong, Moved, step_of, branches, below, is_in, no_env}
@@ -19,9 +19,9 @@ Assertion = Heap → Type 0
 abbrev pub Post : Type 1
 Post = Value → Heap → Type 0
 
--- a postcondition: an assertion, where this name has the result's value
-abbrev pub post_of : Env → List ℕ → Assn → Post
-post_of env r a v h = Satisfies (bind env r (is v)) [] (asn [] a) h
+-- a postcondition: an assertion, where these are the roots and this name has the result's value
+abbrev pub post_of : Names → Env → List ℕ → Assn → Post
+post_of roots env r a v h = Satisfies (bind env r (is v)) [] (asn roots [] a) h
 
 -- the shared cells' invariant of a file that declares none
 abbrev pub no_invariant : Assertion
@@ -41,7 +41,7 @@ pub record IsSound (file : Source1) : Type 0 where
   pub safe : (budget : ℕ) (order : List ℕ) (s : State) → run_of file budget order ≡ Some s → (b n : ℕ) → IsSafe (step_of [] b n s.mem s.tree)
   pub invariant : (budget : ℕ) (order : List ℕ) (s : State) → run_of file budget order ≡ Some s → no_invariant (shared_part s.mem.heap)
   pub ends : (budget : ℕ) (order : List ℕ) (s : State) → run_of file budget order ≡ Some s → (v : Value) → s.tree ≡ Leaf 0 (Ended v)
-      → post_of no_env file.main.result file.main.post v (private_part s.mem.heap)
+      → post_of (root_names file) no_env file.main.result file.main.post v (private_part s.mem.heap)
 
 -- ---- the measure
 

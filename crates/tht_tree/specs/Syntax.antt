@@ -1,7 +1,8 @@
 -- Terms, assertions and programs with bound variables by position: which names an author gave them is gone, and so are
--- proofs, gives, postconditions and the numbers of atoms. Terms, assertions, statements and ends that are not named here are
--- not built yet, and no file with one is accepted: such a term is (), and such a statement frees what is no cell, a fault.
-use Rattle.std.specs.Prelude.{ℕ, suc, bytes_eq, List, [], ◌∷◌, Option, Some, None, if◌then◌else◌}
+-- proofs, gives, postconditions and the numbers of atoms. The name of a root is its place. Assertions, statements and ends that
+-- are not named here are not built yet, and no file with one is accepted: such a statement frees what is no cell, a fault.
+use Rattle.std.specs.Prelude.{ℕ, suc, true, false, bytes_eq, List, [], ◌∷◌, Option, Some, None, if◌then◌else◌}
+use Rattle.tht_tree.specs.declared.plain.Place.TheVariants.{Null, Root}
 use Rattle.tht_tree.specs.declared.plain.Sort.{Sort}
 use Rattle.tht_tree.specs.declared.plain.Value.TheVariants as v
 use Rattle.tht_tree.specs.declared.term.Term.{Term, fold-Term}
@@ -14,17 +15,30 @@ use Rattle.tht_tree.specs.declared.body.StmtKind.{StmtKind}
 use Rattle.tht_tree.specs.declared.body.StmtKind.TheVariants as s
 use Rattle.tht_tree.specs.declared.body.EndKind.{EndKind}
 use Rattle.tht_tree.specs.declared.body.EndKind.TheVariants as e
-use Rattle.tht_tree.specs.Values.{Val, is}
+use Rattle.tht_tree.specs.declared.file.Source1.{Source1}
+use Rattle.tht_tree.specs.Values.{Val, is, seq, a_nat, a_bool, a_place}
 
 pub data Op : Type 0 where
   add : Op
+  sub : Op
+  mul : Op
+  cons : Op
+  cat : Op
   eq : Op
+  lt : Op
+  le : Op
+  conj : Op
+  disj : Op
+  imp : Op
 
 -- a term: a literal, a free name, a bound variable by the number of binders between, or an operation
 pub data Trm : Type 0 where
   lit : Val → Trm
   free : List ℕ → Trm
   bound : ℕ → Trm
+  len : Trm → Trm
+  off : ℕ → Trm → Trm
+  neg : Trm → Trm
   op : Op → Trm → Trm → Trm
 
 -- an assertion: the empty heap, or one private cell at a place with a value
@@ -40,51 +54,75 @@ pub data Code : Type 0 where
   alloc : List Trm → Code → Code
   drop : Trm → Code → Code
 
--- the names that are bound, the innermost first
+-- names: those that are bound, the innermost first, or those of the roots, in their order
 abbrev pub Names : Type 0
 Names = List (List ℕ)
 
--- where a name stands among the bound ones, from k on
+-- the names of the roots of a file: one of the forms that are built declares none
+abbrev pub root_names : Source1 → Names
+root_names file = []
+
+-- where a name stands in a list, from k on
 abbrev pub position : ℕ → Names → List ℕ → Option ℕ
 position k [] x = None
 position k (y ∷ ys) x = if bytes_eq y x then Some k else position (suc k) ys x
 
-abbrev pub named : List ℕ → Option ℕ → Trm
-named x (Some k) = bound k
-named x None = free x
+-- a name that is not bound is a root's, which stands for its place, or free
+abbrev pub root_or_free : List ℕ → Option ℕ → Trm
+root_or_free x (Some r) = lit (a_place (Root r))
+root_or_free x None = free x
 
-abbrev pub trm_at : Names → t.Term-F Trm → Trm
-trm_at xs (t.Num n) = lit (is (v.Nat n))
-trm_at xs t.Unit = lit (is v.Unit)
-trm_at xs (t.Var x) = named x (position 0 xs x)
-trm_at xs (t.Add a b) = op add a b
-trm_at xs (t.Eq a b) = op eq a b
-trm_at xs _ = lit (is v.Unit)
+abbrev pub named : Names → List ℕ → Option ℕ → Trm
+named roots x (Some k) = bound k
+named roots x None = root_or_free x (position 0 roots x)
 
--- the term, where these names are bound
-abbrev pub trm : Names → Term → Trm
-trm xs = fold-Term Trm (trm_at xs)
+abbrev pub trm_at : Names → Names → t.Term-F Trm → Trm
+trm_at roots xs (t.Num n) = lit (a_nat n)
+trm_at roots xs t.True = lit (a_bool true)
+trm_at roots xs t.False = lit (a_bool false)
+trm_at roots xs t.Null = lit (a_place Null)
+trm_at roots xs t.Nil = lit (seq [])
+trm_at roots xs t.Unit = lit (is v.Unit)
+trm_at roots xs (t.Var x) = named roots x (position 0 xs x)
+trm_at roots xs (t.Len a) = len a
+trm_at roots xs (t.Offset a k) = off k a
+trm_at roots xs (t.Mul a b) = op mul a b
+trm_at roots xs (t.Add a b) = op add a b
+trm_at roots xs (t.Sub a b) = op sub a b
+trm_at roots xs (t.Cons a b) = op cons a b
+trm_at roots xs (t.Cat a b) = op cat a b
+trm_at roots xs (t.Eq a b) = op eq a b
+trm_at roots xs (t.Lt a b) = op lt a b
+trm_at roots xs (t.Le a b) = op le a b
+trm_at roots xs (t.Not a) = neg a
+trm_at roots xs (t.And a b) = op conj a b
+trm_at roots xs (t.Or a b) = op disj a b
+trm_at roots xs (t.Imp a b) = op imp a b
 
-abbrev pub asn : Names → Assn → Asn
-asn xs a.Emp = emp
-asn xs (a.Own t u) = own (trm xs t) (trm xs u)
-asn xs _ = emp
+-- the term, where these are the roots and these names are bound
+abbrev pub trm : Names → Names → Term → Trm
+trm roots xs = fold-Term Trm (trm_at roots xs)
 
--- a statement and what follows it, where these names are bound
-abbrev pub stmt_code : StmtKind → Names → (Names → Code) → Code
-stmt_code (s.Read x sort t i h p) xs next = read sort (trm xs t) (next (x ∷ xs))
-stmt_code (s.Write t u i p) xs next = write (trm xs t) (trm xs u) (next xs)
-stmt_code (s.Alloc x (t ∷ [])) xs next = alloc (trm xs t ∷ []) (next (x ∷ xs))
-stmt_code (s.Free t i p) xs next = drop (trm xs t) (next xs)
-stmt_code _ xs next = drop (lit (is v.Unit)) (next xs)
+abbrev pub asn : Names → Names → Assn → Asn
+asn roots xs a.Emp = emp
+asn roots xs (a.Own t u) = own (trm roots xs t) (trm roots xs u)
+asn roots xs _ = emp
 
-abbrev pub stmts_code : List Stmt → (Names → Code) → Names → Code
-stmts_code [] last xs = last xs
-stmts_code (s ∷ ss) last xs = stmt_code s.kind xs (stmts_code ss last)
+-- a statement and what follows it, where these are the roots and these names are bound
+abbrev pub stmt_code : Names → StmtKind → Names → (Names → Code) → Code
+stmt_code roots (s.Read x sort t i h p) xs next = read sort (trm roots xs t) (next (x ∷ xs))
+stmt_code roots (s.Write t u i p) xs next = write (trm roots xs t) (trm roots xs u) (next xs)
+stmt_code roots (s.Alloc x (t ∷ [])) xs next = alloc (trm roots xs t ∷ []) (next (x ∷ xs))
+stmt_code roots (s.Free t i p) xs next = drop (trm roots xs t) (next xs)
+stmt_code roots _ xs next = drop (lit (is v.Unit)) (next xs)
 
-abbrev pub end_code : EndKind → Names → Code
-end_code (e.Ret t g) xs = ret (trm xs t)
-end_code _ xs = ret (lit (is v.Unit))
+abbrev pub stmts_code : Names → List Stmt → (Names → Code) → Names → Code
+stmts_code roots [] last xs = last xs
+stmts_code roots (s ∷ ss) last xs = stmt_code roots s.kind xs (stmts_code roots ss last)
+
+abbrev pub end_code : Names → EndKind → Names → Code
+end_code roots (e.Ret t g) xs = ret (trm roots xs t)
+end_code roots _ xs = ret (lit (is v.Unit))
 
 -- the statements of a body, and its end
 abbrev pub stmts_of : Body → List Stmt
@@ -93,6 +131,6 @@ stmts_of body = (out-Body body).stmts
 abbrev pub end_of : Body → EndKind
 end_of body = (out-Body body).end.kind
 
--- the program of a body
-abbrev pub code : Body → Names → Code
-code body xs = stmts_code (stmts_of body) (end_code (end_of body)) xs
+-- the program of a body, where these are the roots and these names are bound
+abbrev pub code : Names → Body → Names → Code
+code roots body xs = stmts_code roots (stmts_of body) (end_code roots (end_of body)) xs

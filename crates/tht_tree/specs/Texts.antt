@@ -8,7 +8,6 @@ use Rattle.tht_tree.specs.declared.plain.Place.{Place}
 use Rattle.tht_tree.specs.declared.plain.Place.TheVariants.{Null, Root, Cell}
 use Rattle.tht_tree.specs.declared.plain.Value.{Value}
 use Rattle.tht_tree.specs.declared.plain.Value.TheVariants as v
-use Rattle.tht_tree.specs.declared.file.Source1.{Source1}
 use Rattle.tht_tree.specs.declared.run.End.{End}
 use Rattle.tht_tree.specs.declared.run.End.TheVariants.{Done, Spent, Big}
 use Rattle.tht_tree.specs.Lists.{is_nil}
@@ -87,10 +86,6 @@ abbrev pub order_text : List ℕ → List ℕ
 order_text order = run_lines 0 (runs_of order)
 
 -- ---- the report
-
--- the names of the roots of a file, in their order: a file of these forms declares none
-abbrev pub root_names : Source1 → List (List ℕ)
-root_names file = []
 
 -- How the run ended, the number of its events and its cost, the number of attempts given up, and the branches in the
 -- order of their steps.

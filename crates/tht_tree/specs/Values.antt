@@ -1,5 +1,5 @@
 -- Values of the logic and of the machine, and environments.
-use Rattle.std.specs.Prelude.{ℕ, ◌^◌, ◌==◌, nat_lt, Bool, true, false, ◌&&◌, not, bytes_eq, List, if◌then◌else◌}
+use Rattle.std.specs.Prelude.{ℕ, ◌^◌, ◌==◌, nat_lt, Bool, true, false, ◌&&◌, not, bytes_eq, List, [], if◌then◌else◌}
 use Rattle.tht_tree.specs.declared.plain.Place.{Place}
 use Rattle.tht_tree.specs.declared.plain.Place.TheVariants.{Null, Root, Cell}
 use Rattle.tht_tree.specs.declared.plain.Sort.{Sort}
@@ -26,10 +26,15 @@ has_sort sort.Loc (v.Loc p) = true
 has_sort sort.Unit v.Unit = true
 has_sort _ _ = false
 
--- The sorts of cells and of results. No cell can hold a sequence, and bool is not built yet: it is the sort of formulas alone.
+-- a value of the logic has this sort
+abbrev pub has_sort_val : Sort → Val → Bool
+has_sort_val s (is v) = has_sort s v
+has_sort_val sort.Seq (seq xs) = true
+has_sort_val _ (seq xs) = false
+
+-- The sorts of cells and of results: no cell can hold a sequence.
 abbrev pub is_storable : Sort → Bool
 is_storable sort.Seq = false
-is_storable sort.Bool = false
 is_storable _ = true
 
 abbrev pub same_place : Place → Place → Bool
@@ -54,7 +59,8 @@ same_val (is v) (is w) = same_value v w
 same_val (seq s) (seq t) = bytes_eq s t
 same_val _ _ = false
 
--- what a value is as a stored value, a number and a place; one of another kind counts as (), 0 and null
+-- What a value is as a stored value, a number, a truth, a place and a sequence. One of another kind counts as (), 0, false, null
+-- and the empty sequence.
 abbrev pub value_in : Val → Value
 value_in (is v) = v
 value_in (seq s) = unit_value
@@ -63,9 +69,36 @@ abbrev pub nat_in : Value → ℕ
 nat_in (v.Nat n) = n
 nat_in _ = 0
 
+abbrev pub bool_in : Value → Bool
+bool_in (v.Bool b) = b
+bool_in _ = false
+
 abbrev pub place_in : Value → Place
 place_in (v.Loc p) = p
 place_in _ = Null
+
+abbrev pub nat_of : Val → ℕ
+nat_of x = nat_in (value_in x)
+
+abbrev pub bool_of : Val → Bool
+bool_of x = bool_in (value_in x)
+
+abbrev pub place_of : Val → Place
+place_of x = place_in (value_in x)
+
+abbrev pub seq_of : Val → List ℕ
+seq_of (is v) = []
+seq_of (seq s) = s
+
+-- a number, a truth and a place as values of the logic
+abbrev pub a_nat : ℕ → Val
+a_nat n = is (v.Nat n)
+
+abbrev pub a_bool : Bool → Val
+a_bool b = is (v.Bool b)
+
+abbrev pub a_place : Place → Val
+a_place p = is (v.Loc p)
 
 -- the machine holds the value: no number and no index of a cell reaches the limit
 abbrev pub is_small : Value → Bool

@@ -9,7 +9,7 @@ use sqlite_items::Items;
 use std::alloc::Global;
 use std::collections::BTreeMap;
 
-/// What a local name stands for: a program variable of a sort, or a hypothesis.
+/// What a local name stands for: a variable of a sort, or a hypothesis.
 #[derive(Clone, Copy, Debug, PartialEq, Eq)]
 pub enum Local {
     Variable(Sort),

@@ -19,7 +19,7 @@ use Rattle.tht_tree.specs.declared.body.EndKind.{EndKind}
 use Rattle.tht_tree.specs.declared.body.EndKind.TheVariants as e
 use Rattle.tht_tree.specs.declared.state.Local.TheVariants.{Variable, Hypothesis}
 use Rattle.tht_tree.specs.SameTree.{same_of}
-use Rattle.tht_tree.specs.Syntax.{stmts_of, end_of}
+use Rattle.tht_tree.specs.Syntax.{Names, stmts_of, end_of}
 use Rattle.tht_tree.specs.Lists.{is_nil}
 use Rattle.tht_tree.specs.Rules.Sizes.{formula_fits, assn_fits}
 use Rattle.tht_tree.specs.Rules.Context.{with_local, Context, atom_at, without_atom, with_atom, context_fits}
@@ -53,9 +53,9 @@ abbrev pub if_fits : Context → Option Context
 if_fits c = if context_fits c then Some c else None
 
 -- reads the cell of atom i: x has its value, by the hypothesis h
-abbrev pub after_read : Context → List ℕ → Sort → Term → ℕ → List ℕ → ProofKind → Option Context
-after_read c x r t i h p = on_cell (atom_at i c.atoms) (λ place value.
-    if is_of r (sort_of c.scope value) && is_at_place p t place && formula_fits (term.Eq (term.Var x) value)
+abbrev pub after_read : Names → Context → List ℕ → Sort → Term → ℕ → List ℕ → ProofKind → Option Context
+after_read roots c x r t i h p = on_cell (atom_at i c.atoms) (λ place value.
+    if is_of r (sort_of roots c.scope value) && is_at_place p t place && formula_fits (term.Eq (term.Var x) value)
     then if_fits (record c {
       scope = with_local (with_local c.scope x (Variable r)) h Hypothesis;
       hyps = c.hyps ++ (record { name = h; formula = term.Eq (term.Var x) value }) ∷ [];
@@ -83,12 +83,13 @@ abbrev pub after_free : Context → Term → ℕ → ProofKind → Option Contex
 after_free c t i p = on_cell (atom_at i c.atoms) (λ place value.
     if is_at_place p t place then if_fits (record c { atoms = without_atom i c.atoms }) else None)
 
-abbrev pub after_stmt : StmtKind → Context → Option Context
-after_stmt (s.Read x r t i h p) c = after_read c x r t i h p.kind
-after_stmt (s.Write t u i p) c = after_write c t u i p.kind
-after_stmt (s.Alloc x (t ∷ [])) c = after_alloc c x t
-after_stmt (s.Free t i p) c = after_free c t i p.kind
-after_stmt _ c = None
+-- what is known after a statement, where these are the roots
+abbrev pub after_stmt : Names → StmtKind → Context → Option Context
+after_stmt roots (s.Read x r t i h p) c = after_read roots c x r t i h p.kind
+after_stmt roots (s.Write t u i p) c = after_write c t u i p.kind
+after_stmt roots (s.Alloc x (t ∷ [])) c = after_alloc c x t
+after_stmt roots (s.Free t i p) c = after_free c t i p.kind
+after_stmt roots _ c = None
 
 -- ---- bodies
 
@@ -101,10 +102,10 @@ abbrev pub on_context : Option Context → (Context → Bool) → Bool
 on_context None go = false
 on_context (Some c) go = go c
 
-abbrev pub stmts_hold : List Stmt → (Context → Bool) → Context → Bool
-stmts_hold [] last c = last c
-stmts_hold (s ∷ ss) last c = on_context (after_stmt s.kind c) (stmts_hold ss last)
+abbrev pub stmts_hold : Names → List Stmt → (Context → Bool) → Context → Bool
+stmts_hold roots [] last c = last c
+stmts_hold roots (s ∷ ss) last c = on_context (after_stmt roots s.kind c) (stmts_hold roots ss last)
 
--- the body meets this postcondition from what is known
-abbrev pub holds : Body → Assn → Context → Bool
-holds body post c = stmts_hold (stmts_of body) (end_holds (end_of body) post) c
+-- the body meets this postcondition from what is known, where these are the roots
+abbrev pub holds : Names → Body → Assn → Context → Bool
+holds roots body post c = stmts_hold roots (stmts_of body) (end_holds (end_of body) post) c

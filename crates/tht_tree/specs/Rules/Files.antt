@@ -2,6 +2,7 @@
 use Rattle.std.specs.Prelude.{◌≡◌, true, Bool, ℕ, List}
 use Rattle.tht_tree.specs.declared.file.Source1.{Source1}
 use Rattle.tht_tree.specs.Spelling.{IsSpelled}
+use Rattle.tht_tree.specs.Syntax.{root_names}
 use Rattle.tht_tree.specs.Rules.Context.{no_context}
 use Rattle.tht_tree.specs.Rules.Scoping.{is_well_sorted}
 use Rattle.tht_tree.specs.Rules.Commands.{holds}
@@ -13,7 +14,7 @@ pub record IsSource (bytes : List ℕ) (file : Source1) : Type 0 where
 
 -- main's body meets its postcondition, from no atom and with nothing known
 abbrev pub rules_hold : Source1 → Bool
-rules_hold file = holds file.main.body file.main.post no_context
+rules_hold file = holds (root_names file) file.main.body file.main.post no_context
 
 -- the file is accepted: its names and sorts are in order, and no rule refuses it
 pub record IsAccepted (file : Source1) : Type 0 where

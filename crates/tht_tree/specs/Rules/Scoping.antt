@@ -1,5 +1,5 @@
--- Names and sorts: which names are in scope at each place, and which sort each term has. Terms, assertions, proofs, gives,
--- statements and ends that are not named here are not built yet, nor are declarations: a file with one is refused.
+-- Names and sorts: which names are in scope at each place, and which sort each term has. Assertions, proofs, gives, statements
+-- and ends that are not named here are not built yet, nor are declarations: a file with one is refused.
 use Rattle.std.specs.Prelude.{ℕ, Bool, true, false, ◌&&◌, is_none, List, [], ◌∷◌, Option, Some, None, if◌then◌else◌}
 use Rattle.tht_tree.specs.declared.plain.Sort.{Sort}
 use Rattle.tht_tree.specs.declared.plain.Sort.TheVariants as sort
@@ -22,7 +22,7 @@ use Rattle.tht_tree.specs.declared.state.Local.{Local}
 use Rattle.tht_tree.specs.declared.state.Local.TheVariants.{Variable, Hypothesis}
 use Rattle.tht_tree.specs.Lists.{is_nil}
 use Rattle.tht_tree.specs.Values.{is_storable}
-use Rattle.tht_tree.specs.Syntax.{stmts_of, end_of}
+use Rattle.tht_tree.specs.Syntax.{Names, root_names, position, stmts_of, end_of}
 use Rattle.tht_tree.specs.Rules.Context.{Scope, no_locals, with_local}
 
 abbrev pub same_sort : Sort → Sort → Bool
@@ -47,29 +47,93 @@ abbrev pub variable_sort : Option Local → Option Sort
 variable_sort (Some (Variable s)) = Some s
 variable_sort _ = None
 
-abbrev pub sum_sort : Option Sort → Option Sort → Option Sort
-sum_sort (Some sort.Nat) (Some sort.Nat) = Some sort.Nat
-sum_sort _ _ = None
+-- a variable's sort, else the sort loc where the name is a root's
+abbrev pub name_sort : Option Sort → Option ℕ → Option Sort
+name_sort (Some s) root = Some s
+name_sort None (Some r) = Some sort.Loc
+name_sort None None = None
+
+-- both parts have the sort r, and the whole has q
+abbrev pub both_of : Sort → Option Sort → Option Sort → Sort → Option Sort
+both_of r (Some a) (Some b) q = if same_sort r a && same_sort r b then Some q else None
+both_of r _ _ q = None
 
 abbrev pub equation_sort : Option Sort → Option Sort → Option Sort
 equation_sort (Some s) (Some r) = if same_sort s r then Some sort.Bool else None
 equation_sort _ _ = None
 
-abbrev pub sort_at : Scope → t.Term-F (Option Sort) → Option Sort
-sort_at scope (t.Num n) = Some sort.Nat
-sort_at scope t.Unit = Some sort.Unit
-sort_at scope (t.Var x) = variable_sort (scope x)
-sort_at scope (t.Add a b) = sum_sort a b
-sort_at scope (t.Eq a b) = equation_sort a b
-sort_at scope _ = None
+abbrev pub cons_sort : Option Sort → Option Sort → Option Sort
+cons_sort (Some sort.Nat) (Some sort.Seq) = Some sort.Seq
+cons_sort _ _ = None
 
--- the sort of a term, if its names are variables in scope and its parts have the sorts that they must have
-abbrev pub sort_of : Scope → Term → Option Sort
-sort_of scope = fold-Term (Option Sort) (sort_at scope)
+abbrev pub len_sort : Option Sort → Option Sort
+len_sort (Some sort.Seq) = Some sort.Nat
+len_sort _ = None
 
--- a name that no local has
-abbrev pub is_new : Scope → List ℕ → Bool
-is_new scope x = is_none (scope x)
+abbrev pub offset_sort : Option Sort → Option Sort
+offset_sort (Some sort.Loc) = Some sort.Loc
+offset_sort _ = None
+
+abbrev pub not_sort : Option Sort → Option Sort
+not_sort (Some sort.Bool) = Some sort.Bool
+not_sort _ = None
+
+abbrev pub sort_at : Names → Scope → t.Term-F (Option Sort) → Option Sort
+sort_at roots scope (t.Num n) = Some sort.Nat
+sort_at roots scope t.True = Some sort.Bool
+sort_at roots scope t.False = Some sort.Bool
+sort_at roots scope t.Null = Some sort.Loc
+sort_at roots scope t.Nil = Some sort.Seq
+sort_at roots scope t.Unit = Some sort.Unit
+sort_at roots scope (t.Var x) = name_sort (variable_sort (scope x)) (position 0 roots x)
+sort_at roots scope (t.Len a) = len_sort a
+sort_at roots scope (t.Offset a k) = offset_sort a
+sort_at roots scope (t.Mul a b) = both_of sort.Nat a b sort.Nat
+sort_at roots scope (t.Add a b) = both_of sort.Nat a b sort.Nat
+sort_at roots scope (t.Sub a b) = both_of sort.Nat a b sort.Nat
+sort_at roots scope (t.Cons a b) = cons_sort a b
+sort_at roots scope (t.Cat a b) = both_of sort.Seq a b sort.Seq
+sort_at roots scope (t.Eq a b) = equation_sort a b
+sort_at roots scope (t.Lt a b) = both_of sort.Nat a b sort.Bool
+sort_at roots scope (t.Le a b) = both_of sort.Nat a b sort.Bool
+sort_at roots scope (t.Not a) = not_sort a
+sort_at roots scope (t.And a b) = both_of sort.Bool a b sort.Bool
+sort_at roots scope (t.Or a b) = both_of sort.Bool a b sort.Bool
+sort_at roots scope (t.Imp a b) = both_of sort.Bool a b sort.Bool
+
+-- the sort of a term, where these are the roots: its names are known, and its parts have the sorts that they must have
+abbrev pub sort_of : Names → Scope → Term → Option Sort
+sort_of roots scope = fold-Term (Option Sort) (sort_at roots scope)
+
+abbrev pub sequence_free_at : t.Term-F Bool → Bool
+sequence_free_at t.Nil = false
+sequence_free_at (t.Cons a b) = false
+sequence_free_at (t.Cat a b) = false
+sequence_free_at (t.Len a) = a
+sequence_free_at (t.Offset a k) = a
+sequence_free_at (t.Mul a b) = a && b
+sequence_free_at (t.Add a b) = a && b
+sequence_free_at (t.Sub a b) = a && b
+sequence_free_at (t.Eq a b) = a && b
+sequence_free_at (t.Lt a b) = a && b
+sequence_free_at (t.Le a b) = a && b
+sequence_free_at (t.Not a) = a
+sequence_free_at (t.And a b) = a && b
+sequence_free_at (t.Or a b) = a && b
+sequence_free_at (t.Imp a b) = a && b
+sequence_free_at _ = true
+
+-- no part of the term makes a sequence
+abbrev pub sequence_free : Term → Bool
+sequence_free = fold-Term Bool sequence_free_at
+
+-- the sort of a term of the program: sequences are of the logic alone
+abbrev pub program_sort : Names → Scope → Term → Option Sort
+program_sort roots scope t = if sequence_free t then sort_of roots scope t else None
+
+-- a name that no root and no local has
+abbrev pub is_new : Names → Scope → List ℕ → Bool
+is_new roots scope x = is_none (position 0 roots x) && is_none (scope x)
 
 -- what a source may have so far: the proof `refl`, the give `emp`, and the assertion `emp`
 abbrev pub is_built_proof : ProofKind → Bool
@@ -86,39 +150,39 @@ is_built_assn _ = false
 
 -- The scope after a statement, if its own terms have their sorts and the names that it binds are new. An alloc makes one cell
 -- so far.
-abbrev pub stmt_scope : StmtKind → Scope → Option Scope
-stmt_scope (s.Read x r t i h p) scope =
+abbrev pub stmt_scope : Names → StmtKind → Scope → Option Scope
+stmt_scope roots (s.Read x r t i h p) scope =
     let known = with_local scope x (Variable r) in
-    if is_built_proof p.kind && is_of sort.Loc (sort_of scope t) && is_storable r && is_new scope x && is_new known h
+    if is_built_proof p.kind && is_of sort.Loc (program_sort roots scope t) && is_storable r && is_new roots scope x && is_new roots known h
     then Some (with_local known h Hypothesis) else None
-stmt_scope (s.Write t u i p) scope =
-    if is_built_proof p.kind && is_of sort.Loc (sort_of scope t) && is_storable_sort (sort_of scope u) then Some scope else None
-stmt_scope (s.Alloc x (t ∷ [])) scope =
-    if is_storable_sort (sort_of scope t) && is_new scope x then Some (with_local scope x (Variable sort.Loc)) else None
-stmt_scope (s.Free t i p) scope = if is_built_proof p.kind && is_of sort.Loc (sort_of scope t) then Some scope else None
-stmt_scope _ scope = None
+stmt_scope roots (s.Write t u i p) scope =
+    if is_built_proof p.kind && is_of sort.Loc (program_sort roots scope t) && is_storable_sort (program_sort roots scope u) then Some scope else None
+stmt_scope roots (s.Alloc x (t ∷ [])) scope =
+    if is_storable_sort (program_sort roots scope t) && is_new roots scope x then Some (with_local scope x (Variable sort.Loc)) else None
+stmt_scope roots (s.Free t i p) scope = if is_built_proof p.kind && is_of sort.Loc (program_sort roots scope t) then Some scope else None
+stmt_scope roots _ scope = None
 
 -- the end of a body that returns a value of this sort
-abbrev pub end_scoped : Sort → EndKind → Scope → Bool
-end_scoped r (e.Ret t g) scope = is_built_give g.kind && is_of r (sort_of scope t)
-end_scoped r _ scope = false
+abbrev pub end_scoped : Names → Sort → EndKind → Scope → Bool
+end_scoped roots r (e.Ret t g) scope = is_built_give g.kind && is_of r (program_sort roots scope t)
+end_scoped roots r _ scope = false
 
 abbrev pub on_scope : Option Scope → (Scope → Bool) → Bool
 on_scope None go = false
 on_scope (Some scope) go = go scope
 
-abbrev pub stmts_scoped : List Stmt → (Scope → Bool) → Scope → Bool
-stmts_scoped [] last scope = last scope
-stmts_scoped (s ∷ ss) last scope = on_scope (stmt_scope s.kind scope) (stmts_scoped ss last)
+abbrev pub stmts_scoped : Names → List Stmt → (Scope → Bool) → Scope → Bool
+stmts_scoped roots [] last scope = last scope
+stmts_scoped roots (s ∷ ss) last scope = on_scope (stmt_scope roots s.kind scope) (stmts_scoped roots ss last)
 
 -- a body that returns a value of this sort
-abbrev pub body_scoped : Sort → Body → Scope → Bool
-body_scoped r body scope = stmts_scoped (stmts_of body) (end_scoped r (end_of body)) scope
+abbrev pub body_scoped : Names → Sort → Body → Scope → Bool
+body_scoped roots r body scope = stmts_scoped roots (stmts_of body) (end_scoped roots r (end_of body)) scope
 
-abbrev pub assn_scoped : Scope → Assn → Bool
-assn_scoped scope a.Emp = true
-assn_scoped scope (a.Own t u) = is_of sort.Loc (sort_of scope t) && is_storable_sort (sort_of scope u)
-assn_scoped scope _ = false
+abbrev pub assn_scoped : Names → Scope → Assn → Bool
+assn_scoped roots scope a.Emp = true
+assn_scoped roots scope (a.Own t u) = is_of sort.Loc (sort_of roots scope t) && is_storable_sort (sort_of roots scope u)
+assn_scoped roots scope _ = false
 
 -- All names of the file are in scope where they stand, all sorts fit, each name that is bound is new, and all forms are
 -- built. Main's result is known in its postcondition alone.
@@ -127,5 +191,5 @@ is_well_sorted file =
     is_nil file.decls
     && is_storable file.main.sort
     && is_built_assn file.main.post
-    && assn_scoped (with_local no_locals file.main.result (Variable file.main.sort)) file.main.post
-    && body_scoped file.main.sort file.main.body no_locals
+    && assn_scoped (root_names file) (with_local no_locals file.main.result (Variable file.main.sort)) file.main.post
+    && body_scoped (root_names file) file.main.sort file.main.body no_locals

@@ -1,4 +1,4 @@
-use Rattle.std.proofs.Common.{◌≡◌, ◌+◌, ◌∷◌, drop, suc, add-one, drop-cons, sym, ◌∙◌, ap}
+use Rattle.std.proofs.Common.{◌≡◌, ◌+◌, ◌∷◌, drop, suc, add-one, drop-cons, sym, ◌∙◌, ap, []}
 use Rattle.tht_tree.specs.Syntax.{end_of}
 use Rattle.tht_tree.specs.Rules.Commands.{end_holds}
 use Rattle.tht_tree.specs.Rules.Context.{context_of}
@@ -13,7 +13,7 @@ loop-stmt-preserved c =
     let x = c.stmt-item.result in
     let now = context_of c.loop-stmt.checker.state in
     let next = context_of c.statement.new.self.state in
-    let ends = end_scoped c.args.post.now.sort (end_of c.args.body.now) in
+    let ends = end_scoped [] c.args.post.now.sort (end_of c.args.body.now) in
     let here : drop i stmts ≡ x ∷ drop (i + 1) stmts =
     drop-cons stmts i x c.loop-stmt-test.true ∙ ap (λ z. z ∷ drop (suc i) stmts) (sym c.stmt-item.is) ∙ ap (λ k. x ∷ drop k stmts) (sym (add-one i)) in
     let it = c.loop-stmt.invariant in

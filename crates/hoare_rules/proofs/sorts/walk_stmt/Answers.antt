@@ -12,3 +12,8 @@ returns-in-Read-clause-refused c = λ is. rw (c.in-Read.is, ← c.get.ensures) (
 pub returns-in-Write-clause-refused : goal.returns-in-Write-clause-refused
 returns-in-Write-clause-refused c =
     λ is. rw (c.in-Write.is, ← c.get-in-Write.ensures, ← c.get-in-Write-2.ensures) (ap (λ b. cond b (Some (locals_of c.args.scope.now)) None) (c.walk_write.ensures.refused is))
+
+pub returns-in-Write-clause-ok : goal.returns-in-Write-clause-ok
+returns-in-Write-clause-ok c =
+    rw (c.in-Write.is, ← c.get-in-Write.ensures, ← c.get-in-Write-2.ensures)
+    (IfOk-weaker c.walk_write.result _ _ (λ _ h. ap (λ b. cond b (Some (locals_of c.args.scope.now)) None) h) c.walk_write.ensures.ok)

@@ -4,7 +4,7 @@ use Rattle.tht_front.proofs.Going.{begins, now_at, none_at, below, went_on, too_
 use Rattle.tht_front.proofs.run.run.Goals as goal
 
 pub loop-stmt-init : goal.loop-stmt-init
-loop-stmt-init c = begins c.args.file.now c.args.budget _ c.new-runner.ensures
+loop-stmt-init c = begins c.args.file.now c.args.budget c.requires _ c.new-runner.ensures
 
 pub returns-then-steps-budget : goal.returns-then-steps-budget
 returns-then-steps-budget c =

@@ -1,0 +1,11 @@
+pub mod Columns
+pub mod Values
+pub mod Weights
+pub mod RowsSound
+pub mod Forms
+pub mod TakeAway
+pub mod NormalAscends
+pub mod Readings
+pub mod CertificatesSound
+pub mod ProofsSound
+pub mod Unique

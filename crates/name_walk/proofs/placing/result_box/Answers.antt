@@ -1,0 +1,5 @@
+use Rattle.name_walk.proofs.Shadowing.{known_again}
+use Rattle.name_walk.proofs.placing.result_box.Goals as goal
+
+pub returns-clause-same : goal.returns-clause-same
+returns-clause-same c = known_again _ _ _ _ _ _ _ c.in_ok-shadowed.ensures.bound c.in_ok-shadowed.ensures.shadowed c.in_ok-code.ensures.same c.in_ok-unbind.ensures

@@ -1,0 +1,10 @@
+use Rattle.std.proofs.Common.{◌≡◌}
+use Rattle.tht_tree.specs.Walk.Sorts.{found}
+use Rattle.tht_tree.specs.Walk.Terms.{arguments}
+use Rattle.name_walk.specs.Scopes.{scope_of}
+use Rattle.name_walk.proofs.Fitting.{FitsLeft}
+use Rattle.name_walk.proofs.terms.arguments.Given as goal
+
+abbrev pub invariant-loop-sort : goal.invariant-loop-sort
+invariant-loop-sort l =
+    FitsLeft (λ x. (found (scope_of l.scope) l.program x).sort) l.code (arguments (scope_of l.scope) l.program l.sorts l.terms) l.sort-iterator.a.rest.now l.sort-iterator.b.rest.now

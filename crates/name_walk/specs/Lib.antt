@@ -1,0 +1,5 @@
+pub mod Scopes
+pub mod Params
+pub mod Plain
+pub mod Known
+pub mod Ends

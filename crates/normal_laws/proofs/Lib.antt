@@ -1,0 +1,13 @@
+pub mod TermLevels
+pub mod Samples
+pub mod PairsValue
+pub mod SumValues
+pub mod OrderTells
+pub mod TermMeanings
+pub mod FormValues
+pub mod NormalSteps
+pub mod NormalValues
+pub mod PutValues
+pub mod LinearValues
+pub mod OrderTotal
+pub mod SumsAscend

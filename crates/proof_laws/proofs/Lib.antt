@@ -1,0 +1,16 @@
+pub mod LinNeeds
+pub mod Refusing
+pub mod ShapesSay
+pub mod TermSorts
+pub mod PutSorts
+pub mod Truth
+pub mod SoundRule
+pub mod ConnectiveRules
+pub mod EquationRules
+pub mod CellRules
+pub mod LinRule
+pub mod Levels
+pub mod Sound
+pub mod Samples
+pub mod WalkedTerms
+pub mod WalkedProofs

@@ -1,0 +1,2 @@
+//! The rules of proofs are sound.
+#![tactic(auto)]

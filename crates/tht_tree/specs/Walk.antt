@@ -1,0 +1,12 @@
+pub mod Codes
+pub mod Names
+pub mod Sorts
+pub mod Terms
+pub mod Kinds
+pub mod Assns
+pub mod Proofs
+pub mod Gives
+pub mod Steps
+pub mod Bodies
+pub mod Decls
+pub mod Files
