@@ -1,94 +1,128 @@
 -- A body that the rules do not refuse keeps its postcondition, and an accepted file is sound.
-use Rattle.std.proofs.Common.{◌≡◌, ℕ, zero, suc, true, false, Bool, ◌&&◌, cond, List, [], ◌∷◌, map, Option, Some, None, refl, sym, ◌∙◌, ap, subst, inl, inr, arith}
-use Rattle.std.specs.Prelude.{Contains}
+use Rattle.std.proofs.Common.{◌≡◌, ℕ, zero, suc, true, false, Bool, cond, List, [], ◌∷◌, map, Option, Some, None, Result, Ok, Err, refl, sym, ◌∙◌, ap, subst, inl, inr, arith}
+use Rattle.std.specs.Prelude.{Contains, OnOk}
 use Rattle.std.specs.List.Sorted.{IsStrictlySortedBy}
 use Rattle.std.proofs.lemmas.Slice.Eq.{bytes_eq-Decides}
 use Rattle.std.proofs.lemmas.Map.Made.{Contains-tail}
 use Rattle.tht_tree.specs.declared.assn.Assn.{Assn}
 use Rattle.tht_tree.specs.declared.assn.Assn.TheVariants as a
-use Rattle.tht_tree.specs.declared.body.Body.{Body}
+use Rattle.tht_tree.specs.declared.body.Body.{Body, out-Body, fold_out-Body}
+use Rattle.tht_tree.specs.declared.body.End.{End}
 use Rattle.tht_tree.specs.declared.body.Stmt.{Stmt}
 use Rattle.tht_tree.specs.declared.body.EndKind.{EndKind}
 use Rattle.tht_tree.specs.declared.body.EndKind.TheVariants as ends
 use Rattle.tht_tree.specs.declared.file.Source1.{Source1}
 use Rattle.tht_tree.specs.declared.give.GiveKind.{GiveKind}
 use Rattle.tht_tree.specs.declared.give.GiveKind.TheVariants.{Emp}
-use Rattle.tht_tree.specs.declared.plain.Sort.{Sort}
+use Rattle.tht_tree.specs.declared.plain.Spot.{Spot}
+use Rattle.tht_tree.specs.declared.rule.RuleCode.TheVariants.{R3}
+use Rattle.tht_tree.specs.declared.rule.RuleRefusal.{RuleRefusal}
 use Rattle.tht_tree.specs.declared.plain.Value.{Value}
-use Rattle.tht_tree.specs.declared.state.Local.TheVariants.{Variable}
+use Rattle.tht_tree.specs.declared.walk.Frame.{Frame}
+use Rattle.tht_tree.specs.declared.walk.Where.TheVariants.{Outside}
 use Rattle.tht_tree.specs.declared.state.Post.{Post}
-use Rattle.tht_tree.specs.Values.{Val, Env, is_storable}
-use Rattle.tht_tree.specs.Syntax.{Names, named, position, trm, stmts_code, end_code, stmts_of, end_of}
+use Rattle.tht_tree.specs.Values.{Val, Env}
+use Rattle.tht_tree.specs.Syntax.{Names, named, position, trm, stmts_code, end_code}
 use Rattle.tht_tree.specs.Terms.{value_of, fits}
-use Rattle.tht_tree.specs.Heaps.{Heap, nothing, IsEmpty}
+use Rattle.tht_tree.specs.Heaps.{Heap, nothing as nothing_here, IsEmpty}
 use Rattle.tht_tree.specs.Machine.{Leaf, Ended, FrontBig, closed, value, no_env}
 use Rattle.tht_tree.specs.Soundness.{Assertion, Post as Goal, Keeps, IsSound, no_invariant, post_of}
 use Rattle.tht_tree.specs.Satisfaction.{SatisfiesState, AtomsHold}
 use Rattle.tht_tree.specs.Bodies.{BodyKeeps}
 use Rattle.tht_tree.specs.Lists.{is_nil}
-use Rattle.tht_tree.specs.Rules.Context.{Context, Scope, no_context, no_locals, with_local}
-use Rattle.tht_tree.specs.Rules.Commands.{gives, end_holds, after_stmt, on_context, stmts_hold, holds}
-use Rattle.tht_tree.specs.Rules.Files.{IsAccepted}
+use Rattle.tht_tree.specs.Built as built
+use Rattle.tht_tree.specs.Walk.Names as walk
+use Rattle.tht_tree.specs.Walk.Names.{no_names}
+use Rattle.tht_tree.specs.Walk.Bodies as w
+use Rattle.tht_tree.specs.Walk.Bodies.{InBody, Statement, statements, frame}
+use Rattle.tht_tree.specs.Rules.Context.{Context, no_context}
+use Rattle.tht_tree.specs.Rules.Commands.{Outcome, after_stmt}
+use Rattle.tht_tree.specs.Rules.Bodies.{give_refused, end_kind_refused, end_refused, on_known, stmts_refused, body_refused}
+use Rattle.tht_tree.specs.Rules.Refusals.{needs, ◌▸◌}
+use Rattle.tht_tree.specs.Rules.Files.{declared_in, rule_refusal, IsAccepted}
 use Rattle.tht_tree.specs.Rules.Formed.{IsFormed}
-use Rattle.tht_tree.specs.Rules.Scoping.{stmt_scope, on_scope, stmts_scoped, end_scoped, body_scoped, assn_scoped, is_built_assn, is_well_sorted}
 use Rattle.tht_tree.proofs.Outside.{keeps_value, keeps_big}
 use Rattle.tht_tree.proofs.Runs.{keeps_is_sound}
 use Rattle.tht_tree.proofs.TermValues.{Agree}
-use Rattle.hoare_rules.proofs.Choices.{both_true}
+use Rattle.walk_laws.proofs.Levels.{stmt_is}
+use Rattle.pure_proofs.specs.declared.refusal.Refusal.{Refusal}
+use Rattle.pure_proofs.specs.declared.refusal.Refusal.TheVariants.{Rule, Memory}
+use Rattle.pure_proofs.specs.Verdicts.{IsStop, IsVerdict}
+use Rattle.hoare_rules.specs.Cells.{undeclared, Refuses}
+use Rattle.hoare_rules.specs.Names.{Tells}
 use Rattle.hoare_rules.proofs.AtomLists.{Atoms}
-use Rattle.hoare_rules.proofs.FormedAfter.{formed_after}
+use Rattle.hoare_rules.proofs.FormedAfter.{goes_after}
+use Rattle.hoare_rules.proofs.MainWalked.{no_decls, main_walked}
+use Rattle.hoare_rules.proofs.Refused.{nothing}
+use Rattle.hoare_rules.proofs.Refused as walked
 use Rattle.hoare_rules.proofs.RulesSound.{rule_keeps}
 use Rattle.hoare_rules.proofs.Scopes.{bytes_tell, one_further}
 
-pub next_scope : (o : Option Scope) (go : Scope → Bool) → on_scope o go ≡ true → (s : Scope) × (o ≡ Some s) × (go s ≡ true)
-next_scope None go e = cc
-next_scope (Some s) go e = (s, refl, e)
+behind_none : (x y : Option RuleRefusal) → (x ▸ y) ≡ None → (x ≡ None) × (y ≡ None)
+behind_none None y e = (refl, e)
+behind_none (Some r) y e = cc
 
-next_context : (o : Option Context) (go : Context → Bool) → on_context o go ≡ true → (c : Context) × (o ≡ Some c) × (go c ≡ true)
-next_context None go e = cc
-next_context (Some c) go e = (c, refl, e)
+needs_ok : (spot : Spot) (code : _) (b : Bool) → needs spot code b ≡ None → b ≡ true
+needs_ok spot code true e = refl
+needs_ok spot code false e = cc
 
--- one statement of a walk over a body
-module _ (ss rest : List Stmt) (x : Stmt) (is : ss ≡ x ∷ rest) (c d : Context) (formed : IsFormed [] c) (after : after_stmt [] x.kind c ≡ Some d) (ends : Scope → Bool) (scoped : stmts_scoped [] ss ends c.scope ≡ true) where
-  known : (s : Scope) × (stmt_scope [] x.kind c.scope ≡ Some s) × (stmts_scoped [] rest ends s ≡ true)
-  known = next_scope (stmt_scope [] x.kind c.scope) (stmts_scoped [] rest ends) (subst (λ z. stmts_scoped [] z ends c.scope ≡ true) is scoped)
+next_known : (o : Outcome) (go : Context → Option RuleRefusal) → on_known o go ≡ None → (c : Context) × (o ≡ Ok c) × (go c ≡ None)
+next_known (Err r) go e = cc
+next_known (Ok c) go e = (c, refl, e)
 
-  pub formed_next : IsFormed [] d
-  formed_next = (formed_after x.kind c d known.0 formed known.1 after).0
+-- one statement of a body
+pub refused_next : (ss rest : List Stmt) (x : Stmt) (c d : Context) (last : Context → Option RuleRefusal) → ss ≡ x ∷ rest → after_stmt undeclared x.spot c x.kind ≡ Ok d →
+    stmts_refused undeclared ss last c ≡ stmts_refused undeclared rest last d
+refused_next ss rest x c d last is after = ap (λ z. stmts_refused undeclared z last c) is ∙ ap (λ o. on_known o (stmts_refused undeclared rest last)) after
 
-  pub scoped_next : stmts_scoped [] rest ends d.scope ≡ true
-  scoped_next = subst (λ z. stmts_scoped [] rest ends z ≡ true) (sym (formed_after x.kind c d known.0 formed known.1 after).1) known.2
+pub refused_here : (ss rest : List Stmt) (x : Stmt) (c : Context) (r : RuleRefusal) (last : Context → Option RuleRefusal) → ss ≡ x ∷ rest → after_stmt undeclared x.spot c x.kind ≡ Err r →
+    stmts_refused undeclared ss last c ≡ Some r
+refused_here ss rest x c r last is refused = ap (λ z. stmts_refused undeclared z last c) is ∙ ap (λ o. on_known o (stmts_refused undeclared rest last)) refused
 
-  pub hold_next : (last : Context → Bool) → stmts_hold [] ss last c ≡ stmts_hold [] rest last d
-  hold_next last = ap (λ z. stmts_hold [] z last c) is ∙ ap (λ o. on_context o (stmts_hold [] rest last)) after
+pub body_stops : (e : Refusal) (whole : Option RuleRefusal) (ss rest : List Stmt) (x : Stmt) (c : Context) (last : Context → Option RuleRefusal) → ss ≡ x ∷ rest → whole ≡ stmts_refused undeclared ss last c →
+    Refuses e (after_stmt undeclared x.spot c x.kind) → IsStop e whole
+body_stops (Rule r) whole ss rest x c last is left refused = left ∙ refused_here ss rest x c r last is refused
+body_stops Memory whole ss rest x c last is left refused = tt
+
+pub body_ends : {A : Type 0} (result : Result A Refusal) (whole : Option RuleRefusal) (ss : List Stmt) (c : Context) (last : Context → Option RuleRefusal) → ss ≡ [] → whole ≡ stmts_refused undeclared ss last c →
+    IsVerdict result (last c) → IsVerdict result whole
+body_ends result whole ss c last is left h = subst (IsVerdict result) (sym (left ∙ ap (λ z. stmts_refused undeclared z last c) is)) h
+
+pub verdict_ok : {A : Type 0} (result : Result A Refusal) (said : Option RuleRefusal) (P : Type 0) → (said ≡ None → P) → IsVerdict result said → OnOk result P
+verdict_ok (Ok x) said P f h = f h
+verdict_ok (Err e) said P f h = tt
 
 no_atoms : (env : Env) (atoms : Atoms) (h : Heap) → is_nil atoms ≡ true → AtomsHold [] env atoms h → IsEmpty h
 no_atoms env [] h e w = w
 no_atoms env (x ∷ atoms) h e w = cc
 
-module _ (I : Assertion) (above : List ℕ) (b : ℕ) (Q : Goal) (r : Sort) (post : Assn) (met : (g : GiveKind) → gives g post ≡ true → (v : Value) (h : Heap) → IsEmpty h → Q v h) where
-  end_keeps : (end : EndKind) (k : ℕ) (c : Context) (env : Env) (xs : Names) (vs : List Val) (h : Heap) → end_holds end post c ≡ true → SatisfiesState [] env c h →
+module _ (I : Assertion) (above : List ℕ) (b : ℕ) (Q : Goal) (f : Frame) (post : Assn) (met : (spot : Spot) (g : GiveKind) → give_refused spot g post ≡ None → (v : Value) (h : Heap) → IsEmpty h → Q v h) where
+  end_keeps : (spot : Spot) (end : EndKind) (k : ℕ) (c : Context) (env : Env) (xs : Names) (vs : List Val) (h : Heap) → end_kind_refused spot end post c ≡ None → SatisfiesState [] env c h →
       Keeps I k above (Leaf b (closed vs (end_code [] end xs))) h Q
-  end_keeps (ends.Ret t g) k c env xs vs h e s = pick (fits no_env vs (trm [] xs t))
+  end_keeps spot (ends.Ret t g) k c env xs vs h e s = pick (fits no_env vs (trm [] xs t))
     where
       pick : (fit : Bool) → Keeps I k above (Leaf b (cond fit (Ended (value vs (trm [] xs t))) FrontBig)) h Q
       pick true =
-          let both = both_true (gives g.kind post) (is_nil c.atoms) e in
-          keeps_value I k above b (value vs (trm [] xs t)) h Q (met g.kind both.0 (value vs (trm [] xs t)) h (no_atoms env c.atoms h both.1 s.atoms))
+          let both = behind_none (give_refused g.spot g.kind post) (needs spot R3 (is_nil c.atoms)) e in
+          keeps_value I k above b (value vs (trm [] xs t)) h Q
+          (met g.spot g.kind both.0 (value vs (trm [] xs t)) h (no_atoms env c.atoms h (needs_ok spot R3 (is_nil c.atoms) both.1) s.atoms))
       pick false = keeps_big I k above b h Q
-  end_keeps _ k c env xs vs h e s = cc
+  end_keeps spot _ k c env xs vs h e s = cc
 
-  stmts_keep : (ss : List Stmt) (end : EndKind) (k : ℕ) (c : Context) (env : Env) (xs : Names) (vs : List Val) (h : Heap) →
-      IsFormed [] c → stmts_scoped [] ss (end_scoped [] r end) c.scope ≡ true → stmts_hold [] ss (end_holds end post) c ≡ true → Agree [] c.scope no_env vs xs env [] [] → SatisfiesState [] env c h →
-      Keeps I k above (Leaf b (closed vs (stmts_code [] ss (end_code [] end) xs))) h Q
-  stmts_keep [] end k c env xs vs h formed scoped held agree s = end_keeps end k c env xs vs h held s
-  stmts_keep (x ∷ ss) end zero c env xs vs h formed scoped held agree s = tt
-  stmts_keep (x ∷ ss) end (suc k) c env xs vs h formed scoped held agree s =
-      let n = next_scope (stmt_scope [] x.kind c.scope) (stmts_scoped [] ss (end_scoped [] r end)) scoped in
-      let d = next_context (after_stmt [] x.kind c) (stmts_hold [] ss (end_holds end post)) held in
-      let f = formed_after x.kind c d.0 n.0 formed n.1 d.1 in
-      rule_keeps I k above b Q c formed env xs vs h agree s x.kind d.0 n.0 (stmts_code [] ss (end_code [] end)) n.1 d.1
-      (λ env' ys ws q agree' s'. stmts_keep ss end k d.0 env' ys ws q f.0 (subst (λ z. stmts_scoped [] ss (end_scoped [] r end) z ≡ true) (sym f.1) n.2) d.2 agree' s')
+  stmts_keep : (ss : List Stmt) (end : End) (last : InBody) (k : ℕ) (c : Context) (names : walk.Scope) (env : Env) (xs : Names) (vs : List Val) (h : Heap) →
+      IsFormed [] c → Tells names c.scope → statements (map w.stmt ss) last f names ≡ nothing → stmts_refused undeclared ss (end_refused end post) c ≡ None →
+      Agree [] c.scope no_env vs xs env [] [] → SatisfiesState [] env c h → Keeps I k above (Leaf b (closed vs (stmts_code [] ss (end_code [] end.kind) xs))) h Q
+  stmts_keep [] end last k c names env xs vs h formed tells order held agree s = end_keeps end.spot end.kind k c env xs vs h held s
+  stmts_keep (x ∷ ss) end last zero c names env xs vs h formed tells order held agree s = tt
+  stmts_keep (x ∷ ss) end last (suc k) c names env xs vs h formed tells order held agree s =
+      let parts = walked.behind_none ((w.stmt x).walk f names) (statements (map w.stmt ss) last f ((w.stmt x).after names)) order in
+      let here : (w.stmt_kind x.kind x.spot).walk f names ≡ nothing = sym (ap (λ z. z.walk f names) (stmt_is x.spot x.kind)) ∙ parts.0 in
+      let next = next_known (after_stmt undeclared x.spot c x.kind) (stmts_refused undeclared ss (end_refused end post)) held in
+      let goes = goes_after x.spot f names c next.0 formed tells x.kind here next.1 in
+      let behind : statements (map w.stmt ss) last f ((w.stmt_kind x.kind x.spot).after names) ≡ nothing =
+      sym (ap (λ z. statements (map w.stmt ss) last f (z.after names)) (stmt_is x.spot x.kind)) ∙ parts.1 in
+      rule_keeps I above b Q c formed env xs vs h agree s x.spot f names tells next.0 (stmts_code [] ss (end_code [] end.kind)) k
+      (λ j env' ys ws q agree' s'. stmts_keep ss end last j next.0 ((w.stmt_kind x.kind x.spot).after names) env' ys ws q goes.formed goes.tells behind next.2 agree' s') x.kind here next.1
 
 -- the names that a program binds have the environment's values
 covered : (env : Env) (xs : Names) (x : List ℕ) → Contains xs x → value_of no_env (map env xs) (named [] x (position 0 xs x)) ≡ env x
@@ -101,14 +135,19 @@ covered env (y ∷ ys) x h = elim (bytes_tell y x) [
       ∙ covered env ys x (Contains-tail y ys x (λ g. let f = (bytes_eq-Decides y x).1 g in cc) h)
 ]
 
-pub body_keeps : (c : Context) (body : Body) (post : Post) → IsFormed [] c → body_scoped [] post.sort body c.scope ≡ true → holds [] body post.assn c ≡ true → BodyKeeps [] c body post
-body_keeps c body post formed scoped held k b above env xs h covers s =
-    stmts_keep no_invariant above b (post_of [] env post.result post.assn) post.sort post.assn (λ g. met g post.assn) (stmts_of body) (end_of body) k c env xs (map env xs) h formed scoped held
-    (λ x r e. covered env xs x (covers x r e)) s
+pub parts_is : (x : Body) (f : Frame) (names : walk.Scope) → w.body x f names ≡ statements (map w.stmt (out-Body x).stmts) (w.end (out-Body x).end) f names
+unfolding w.body w.stmt w.end
+parts_is x f names = ap (λ g. g f names) (fold_out-Body (Spot → InBody) (Spot → Statement) InBody InBody Statement w.end_at w.statement_at w.body_at w.spotted_end w.spotted_stmt x)
+
+pub body_keeps : (c : Context) (body : Body) (post : Post) (names : walk.Scope) → IsFormed [] c → Tells names c.scope → w.body body (frame Outside post.sort) names ≡ nothing →
+    body_refused undeclared body post.assn c ≡ None → BodyKeeps [] c body post
+body_keeps c body post names formed tells order held k b above env xs h covers s =
+    stmts_keep no_invariant above b (post_of [] env post.result post.assn) (frame Outside post.sort) post.assn (λ spot g. met spot g post.assn) (out-Body body).stmts (out-Body body).end (w.end (out-Body body).end)
+    k c names env xs (map env xs) h formed tells (sym (parts_is body (frame Outside post.sort) names) ∙ order) held (λ x r e. covered env xs x (covers x r e)) s
   where
-    met : (g : GiveKind) (p : Assn) → gives g p ≡ true → (v : Value) (h : Heap) → IsEmpty h → post_of [] env post.result p v h
-    met Emp a.Emp e v h w = w
-    met _ _ e v h w = cc
+    met : (spot : Spot) (g : GiveKind) (p : Assn) → give_refused spot g p ≡ None → (v : Value) (h : Heap) → IsEmpty h → post_of [] env post.result p v h
+    met spot Emp a.Emp e v h w = w
+    met spot _ _ e v h w = cc
 
 nothing_formed : IsFormed [] no_context
 unfolding IsStrictlySortedBy
@@ -119,20 +158,24 @@ nothing_formed = record {
   hyps = λ k d l. absurd (omega (arith, l));
 }
 
-nothing_satisfies : SatisfiesState [] no_env no_context nothing
+nothing_satisfies : SatisfiesState [] no_env no_context nothing_here
 nothing_satisfies = record { sorts = λ x s e. cc; hyps = tt; atoms = λ p. refl }
 
--- what the walk over names and sorts says of main's body
-pub body_is_scoped : (file : Source1) → is_well_sorted file ≡ true → body_scoped [] file.main.sort file.main.body no_locals ≡ true
-body_is_scoped file e =
+no_names_tell : Tells no_names no_context.scope
+no_names_tell x = refl
+
+-- in a file whose forms are built nothing is declared
+pub main_accepted : (file : Source1) → built.is_built file ≡ true → rule_refusal file ≡ body_refused undeclared file.main.body file.main.post no_context
+main_accepted file b =
     let main = file.main in
-    let post = assn_scoped [] (with_local no_locals main.result (Variable main.sort)) main.post in
-    (both_true (is_nil file.decls && is_storable main.sort && is_built_assn main.post && post) (body_scoped [] main.sort main.body no_locals) e).1
+    let none = no_decls file b in
+    ap (λ ds. body_refused (declared_in (record file { decls = ds })) main.body main.post no_context) none
 
 -- an accepted file is sound
 pub accepted_sound : (file : Source1) → IsAccepted file → IsSound file
 accepted_sound file accepted =
     let main = file.main in
     let post : Post = record { result = main.result; sort = main.sort; assn = main.post } in
-    let scoped = body_is_scoped file accepted.sorted in
-    keeps_is_sound file (λ k. body_keeps no_context main.body post nothing_formed scoped accepted.rules k 0 [] no_env [] nothing (λ x s e. cc) nothing_satisfies)
+    let order = main_walked file accepted.built accepted.sorted in
+    let held = sym (main_accepted file accepted.built) ∙ accepted.rules in
+    keeps_is_sound file (λ k. body_keeps no_context main.body post no_names nothing_formed no_names_tell order held k 0 [] no_env [] nothing_here (λ x s e. cc) nothing_satisfies)

@@ -1,9 +1,7 @@
--- Each rule of commands in the steps of the checker, and the size of what is known after it.
-use Rattle.std.proofs.Common.{◌≡◌, ℕ, suc, ◌+◌, ◌-◌, ◌^◌, ◌<◌, ◌≤◌, Bool, true, false, ◌&&◌, cond, leb, ltb, min, List, Option, Some, None, sum_by, unwrap_or, refl, sym, ◌∙◌, ap, subst, arith, []}
+-- The sizes of what is known after each statement, by a count of nodes that stays at 2^64 - 1.
+use Rattle.std.proofs.Common.{◌≡◌, ℕ, suc, ◌+◌, ◌-◌, ◌^◌, ◌<◌, ◌≤◌, Bool, true, false, ◌&&◌, cond, leb, ltb, min, List, Option, Some, None, Ok, sum_by, unwrap_or, refl, sym, ◌∙◌, ap, arith}
 use Rattle.std.proofs.lemmas.Bool.{lt-ltb, leb-true, leb-false, lt-leb}
-use Rattle.std.proofs.Math.Bool.{and-true}
 use Rattle.std.proofs.lemmas.Cmp.{nat_cmp_total}
-use Rattle.std.proofs.lemmas.List.Sums.{sum_by_push}
 use Rattle.std.proofs.lemmas.Map.Entries.{sum_by-remove_entry, sum_by-insert_entry}
 use Rattle.std.specs.Prelude.{All}
 use Rattle.std.specs.BTreeMap.{is_at}
@@ -13,39 +11,39 @@ use Rattle.std.specs.Ordering.{nat_cmp}
 use Rattle.std.specs.List.Sorted.{IsStrictlySortedBy}
 use Rattle.tht_tree.specs.declared.assn.Assn.{Assn}
 use Rattle.tht_tree.specs.declared.assn.Assn.TheVariants as a
-use Rattle.tht_tree.specs.declared.plain.Sort.{Sort}
-use Rattle.tht_tree.specs.declared.proof.ProofKind.{ProofKind}
+use Rattle.tht_tree.specs.declared.plain.Spot.{Spot}
+use Rattle.tht_tree.specs.declared.rule.RuleCode.TheVariants.{R10}
 use Rattle.tht_tree.specs.declared.state.Hyp.{Hyp}
 use Rattle.tht_tree.specs.declared.term.Term.{Term}
 use Rattle.tht_tree.specs.declared.term.Term.TheVariants as term
 use Rattle.tht_tree.specs.Rules.Context.{Context, Scope, atom_at, with_atom, without_atom, context_nodes}
-use Rattle.tht_tree.specs.Rules.Commands.{is_at_place, on_cell, if_fits, after_read, after_write, after_free}
-use Rattle.tht_tree.specs.Rules.Scoping.{is_of, sort_of}
-use Rattle.tht_tree.specs.Rules.Sizes.{nodes, nodes_at, assn_nodes, formula_fits, assn_fits}
-use Rattle.tht_tree.proofs.TermFolds.{at-Var, at-Eq}
+use Rattle.tht_tree.specs.Rules.Commands.{Outcome, refused, if_fits}
+use Rattle.tht_tree.specs.Rules.Sizes.{nodes, nodes_at, assn_nodes}
+use Rattle.tht_tree.proofs.TermFolds.{at-Var}
+use Rattle.hoare_rules.specs.Steps.{IsAscending, write_context, alloc_context, free_context}
 use Rattle.hoare_rules.proofs.CellSizes.{own_nodes}
-use Rattle.hoare_rules.specs.NamedCells.{value_in_cell}
 use Rattle.hoare_rules.proofs.AtomLists.{Atoms, none_at}
-use Rattle.hoare_rules.proofs.Statements.{place_is, read_context, write_context, alloc_context, free_context}
 use Rattle.hoare_rules.proofs.Sums.{sum_by-map}
-use Rattle.hoare_rules.proofs.Choices.{both_true, if_some, some_same}
 
 -- ---- limits
 
+abbrev within : Spot → Context → Bool → Outcome
+within spot c b = cond b (Ok c) (refused spot R10)
+
 -- the limit of a context, by a count of its nodes that stays at 2^64 - 1
-module _ (c : Context) (n : ℕ) (capped : n ≡ min (context_nodes c) (2 ^ 64 - 1)) where
-  pub too_large : false ≡ leb n 262144 → if_fits c ≡ None
+module _ (spot : Spot) (c : Context) (n : ℕ) (capped : n ≡ min (context_nodes c) (2 ^ 64 - 1)) where
+  pub too_large : false ≡ leb n 262144 → if_fits spot c ≡ refused spot R10
   too_large e =
       let above : leb (context_nodes c) 262144 ≡ false = lt-leb (context_nodes c) 262144 (omega (arith, leb-false n 262144 (sym e))) in
-      ap (λ b. cond (b && ltb c.made (2 ^ 32)) (Some c) None) above
+      ap (λ b. within spot c (b && ltb c.made (2 ^ 32))) above
 
   pub is_counted : true ≡ leb n 262144 → n ≡ context_nodes c
   is_counted e = omega (arith, leb-true n 262144 (sym e))
 
-  pub not_too_large : c.made < 2 ^ 32 → true ≡ leb n 262144 → if_fits c ≡ Some c
+  pub not_too_large : c.made < 2 ^ 32 → true ≡ leb n 262144 → if_fits spot c ≡ Ok c
   not_too_large below e =
-      let within : leb (context_nodes c) 262144 ≡ true = ap (λ k. leb k 262144) (sym (is_counted e)) ∙ sym e in
-      ap (λ b. cond b (Some c) None) (λ i. within i && lt-ltb c.made (2 ^ 32) below i)
+      let fits : leb (context_nodes c) 262144 ≡ true = ap (λ k. leb k 262144) (sym (is_counted e)) ∙ sym e in
+      ap (within spot c) (λ i. fits i && lt-ltb c.made (2 ^ 32) below i)
 
 -- ---- the size of the atoms
 
@@ -72,89 +70,28 @@ size_with i y es o sorted at =
 none_new : (n i : ℕ) (es : Atoms) → All (λ x. x.0 ≤ n) es → n < i → atom_at i es ≡ None
 none_new n i es all l = none_at (suc n) i es (λ k d h. let g = all k d h in omega arith) (omega arith)
 
--- ---- a cell that is found
+-- ---- the atom of a cell
 
-pub record FindsCell (c : Context) (t : Term) (i : ℕ) (p : ProofKind) (v : Term) : Type 0 where
-  pub at : atom_at i c.atoms ≡ Some (a.Own t v)
-  pub proved : is_at_place p t t ≡ true
-
-cell_found : (p : ProofKind) (t v : Term) (o : Option Assn) → value_in_cell p t o ≡ Some v → (o ≡ Some (a.Own t v)) × (is_at_place p t t ≡ true)
-cell_found p t v None e = cc
-cell_found p t v (Some (a.Own at u)) e =
-    let h = if_some (is_at_place p t at) (Some u) v e in
-    let same : t ≡ at = place_is p t at h.0 in
-    (ap Some (ap (λ z. a.Own z u) (sym same) ∙ ap (λ z. a.Own t z) (some_same u v h.1)), subst (λ z. is_at_place p t z ≡ true) (sym same) h.0)
-cell_found p t v (Some _) e = cc
-
-pub finds_cell : (c : Context) (t : Term) (i : ℕ) (p : ProofKind) (v : Term) → value_in_cell p t (atom_at i c.atoms) ≡ Some v → FindsCell c t i p v
-finds_cell c t i p v e = let h = cell_found p t v (atom_at i c.atoms) e in record { at = h.0; proved = h.1 }
-
-some_none : (u : Term) → Some u ≡ None → ⊥
-some_none u e = cc
-
--- without one each rule refuses
-none_found : (p : ProofKind) (t : Term) (o : Option Assn) (go : Term → Term → Bool) (next : Term → Term → Option Context) →
-    ((place value : Term) → go place value ≡ true → is_at_place p t place ≡ true) → value_in_cell p t o ≡ None → on_cell o (λ place value. cond (go place value) (next place value) None) ≡ None
-none_found p t None go next needs e = refl
-none_found p t (Some (a.Own at u)) go next needs e = pick (go at u) refl
-  where
-    pick : (b : Bool) → go at u ≡ b → cond (go at u) (next at u) None ≡ None
-    pick true f = absurd (some_none u (sym (ap (λ b. cond b (Some u) None) (needs at u f)) ∙ e))
-    pick false f = ap (λ b. cond b (next at u) None) f
-none_found p t (Some _) go next needs e = refl
-
-pub no_read : (c : Context) (x : List ℕ) (r : Sort) (t : Term) (i : ℕ) (h : List ℕ) (p : ProofKind) → value_in_cell p t (atom_at i c.atoms) ≡ None → after_read [] c x r t i h p ≡ None
-no_read c x r t i h p e =
-    none_found p t (atom_at i c.atoms) (λ place value. is_of r (sort_of [] c.scope value) && is_at_place p t place && formula_fits (term.Eq (term.Var x) value)) _
-    (λ place value f. (both_true (is_of r (sort_of [] c.scope value)) (is_at_place p t place) (both_true (is_of r (sort_of [] c.scope value) && is_at_place p t place) (formula_fits (term.Eq (term.Var x) value)) f).0).1) e
-
--- ---- the rules
-
-module _ (c : Context) (t : Term) (i : ℕ) (p : ProofKind) (v : Term) (found : FindsCell c t i p v) where
-  pub free_is : after_free c t i p ≡ if_fits (free_context c i)
-  free_is = ap (λ o. on_cell o (λ place value. cond (is_at_place p t place) (if_fits (free_context c i)) None)) found.at ∙ ap (λ b. cond b (if_fits (free_context c i)) None) found.proved
-
+module _ (c : Context) (i : ℕ) (t v : Term) (at : atom_at i c.atoms ≡ Some (a.Own t v)) where
   pub free_size : context_nodes (free_context c i) + (nodes t + nodes v + 1) ≡ context_nodes c
-  free_size = let e = size_without i c.atoms (a.Own t v) found.at in let g = own_nodes t v in omega (arith, e, g)
+  free_size = let e = size_without i c.atoms (a.Own t v) at in let g = own_nodes t v in omega (arith, e, g)
 
   -- what is left of the count
   pub free_left : (n s : ℕ) → n ≡ context_nodes c → n < 2 ^ 64 → s ≡ min (nodes t + nodes v + 1) (2 ^ 64 - 1) → (s ≤ n) × (n - s ≡ min (context_nodes (free_context c i)) (2 ^ 64 - 1))
   free_left n s counted range size = let e = free_size in (omega arith, omega arith)
 
-  pub write_is : (u : Term) → after_write c t u i p ≡ cond (assn_fits (a.Own t u)) (if_fits (write_context c i t u)) None
-  write_is u =
-      ap (λ o. on_cell o (λ place value. cond (is_at_place p t place && assn_fits (a.Own place u)) (if_fits (write_context c i place u)) None)) found.at
-      ∙ ap (λ b. cond (b && assn_fits (a.Own t u)) (if_fits (write_context c i t u)) None) found.proved
-
-  pub write_size : (u : Term) → IsStrictlySortedBy nat_cmp (keys_of c.atoms) → context_nodes (write_context c i t u) + nodes v ≡ context_nodes c + nodes u
-  write_size u sorted = let e = size_with i (a.Own t u) c.atoms (Some (a.Own t v)) sorted found.at in let g = own_nodes t u in let h = own_nodes t v in omega (arith, e, g, h)
+  pub write_size : (u : Term) → IsAscending c → context_nodes (write_context c i t u) + nodes v ≡ context_nodes c + nodes u
+  write_size u sorted = let e = size_with i (a.Own t u) c.atoms (Some (a.Own t v)) sorted at in let g = own_nodes t u in let h = own_nodes t v in omega (arith, e, g, h)
 
   pub value_within : (n s : ℕ) → n ≡ context_nodes c → s ≡ min (nodes v) (2 ^ 64 - 1) → s ≤ n
   value_within n s counted size = let e = free_size in omega arith
 
   -- the count with the new value's nodes in place of the old one's
-  pub write_left : (u : Term) → IsStrictlySortedBy nat_cmp (keys_of c.atoms) → (n s k m : ℕ) → n ≡ context_nodes c → n < 2 ^ 64 → s ≡ min (nodes v) (2 ^ 64 - 1) → k ≡ min (nodes u) (2 ^ 64 - 1) → m ≡ min (n - s + k) (2 ^ 64 - 1) →
+  pub write_left : (u : Term) → IsAscending c → (n s k m : ℕ) → n ≡ context_nodes c → n < 2 ^ 64 → s ≡ min (nodes v) (2 ^ 64 - 1) → k ≡ min (nodes u) (2 ^ 64 - 1) → m ≡ min (n - s + k) (2 ^ 64 - 1) →
       m ≡ min (context_nodes (write_context c i t u)) (2 ^ 64 - 1)
   write_left u sorted n s k m counted range old new sum = let e = write_size u sorted in let f = free_size in omega arith
 
-  pub read_is : (x : List ℕ) (r : Sort) (h : List ℕ) →
-      after_read [] c x r t i h p ≡ cond (is_of r (sort_of [] c.scope v) && formula_fits (term.Eq (term.Var x) v)) (if_fits (read_context c x r h v)) None
-  read_is x r h =
-      ap
-      (λ o. on_cell o (λ place value.
-      cond (is_of r (sort_of [] c.scope value) && is_at_place p t place && formula_fits (term.Eq (term.Var x) value)) (if_fits (read_context c x r h value)) None))
-      found.at
-      ∙ ap (λ b. cond (is_of r (sort_of [] c.scope v) && b && formula_fits (term.Eq (term.Var x) v)) (if_fits (read_context c x r h v)) None) found.proved
-      ∙ ap (λ b. cond (b && formula_fits (term.Eq (term.Var x) v)) (if_fits (read_context c x r h v)) None) (and-true (is_of r (sort_of [] c.scope v)))
-
-pub read_size : (c : Context) (x : List ℕ) (r : Sort) (h : List ℕ) (v : Term) → context_nodes (read_context c x r h v) ≡ context_nodes c + (nodes v + 2)
-read_size c x r h v =
-    let e = sum_by_push (λ g. nodes g.formula) c.hyps (record { name = h; formula = term.Eq (term.Var x) v }) in
-    let f : nodes (term.Eq (term.Var x) v) ≡ nodes (term.Var x) + nodes v + 1 = at-Eq ℕ nodes_at (term.Var x) v in
-    let g : nodes (term.Var x) ≡ 1 = at-Var ℕ nodes_at x in
-    omega (arith, e, f, g)
-
-pub alloc_size : (c : Context) (x : List ℕ) (t : Term) → IsStrictlySortedBy nat_cmp (keys_of c.atoms) → All (λ y. y.0 ≤ c.made) c.atoms → context_nodes (alloc_context c x t) ≡ context_nodes c + (nodes t + 2)
+pub alloc_size : (c : Context) (x : List ℕ) (t : Term) → IsAscending c → All (λ y. y.0 ≤ c.made) c.atoms → context_nodes (alloc_context c x t) ≡ context_nodes c + (nodes t + 2)
 alloc_size c x t sorted numbered =
     let e = size_with (c.made + 1) (a.Own (term.Var x) t) c.atoms None sorted (none_new c.made (c.made + 1) c.atoms numbered (omega arith)) in
     let g : nodes (term.Var x) ≡ 1 = at-Var ℕ nodes_at x in

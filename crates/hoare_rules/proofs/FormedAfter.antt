@@ -1,5 +1,5 @@
 -- What is known after a statement is again in order.
-use Rattle.std.proofs.Common.{◌≡◌, ℕ, ◌+◌, ◌≤◌, Bool, true, ◌&&◌, ◌∷◌, [], cond, Option, Some, None, List, sym, ◌∙◌, ap, subst, arith}
+use Rattle.std.proofs.Common.{◌≡◌, ℕ, ◌+◌, ◌≤◌, true, ◌&&◌, ◌∷◌, [], cond, Option, Some, None, Ok, List, sym, ◌∙◌, ap, subst, arith}
 use Rattle.std.specs.Prelude.{All}
 use Rattle.std.specs.Ordering.{is_eq}
 use Rattle.std.proofs.lemmas.List.Elements.{All-push, All-head, All-tail}
@@ -7,93 +7,32 @@ use Rattle.tht_tree.specs.declared.assn.Assn.{Assn}
 use Rattle.tht_tree.specs.declared.assn.Assn.TheVariants as a
 use Rattle.tht_tree.specs.declared.plain.Sort.{Sort}
 use Rattle.tht_tree.specs.declared.plain.Sort.TheVariants as sort
+use Rattle.tht_tree.specs.declared.plain.Spot.{Spot}
 use Rattle.tht_tree.specs.declared.state.Local.TheVariants.{Variable, Hypothesis}
 use Rattle.tht_tree.specs.declared.state.Hyp.{Hyp}
+use Rattle.tht_tree.specs.declared.step.StepKind.{StepKind}
+use Rattle.tht_tree.specs.declared.step.StepKind.TheVariants as k
 use Rattle.tht_tree.specs.declared.term.Term.{Term}
 use Rattle.tht_tree.specs.declared.term.Term.TheVariants as term
 use Rattle.tht_tree.specs.declared.body.StmtKind.{StmtKind}
 use Rattle.tht_tree.specs.declared.body.StmtKind.TheVariants as s
+use Rattle.tht_tree.specs.declared.walk.Frame.{Frame}
 use Rattle.tht_tree.specs.Values.{is_storable}
 use Rattle.tht_tree.specs.Rules.Context.{Context, Scope, with_local, atom_at, with_atom, without_atom}
-use Rattle.tht_tree.specs.Rules.Commands.{after_stmt}
+use Rattle.tht_tree.specs.Rules.Known.{with_hyp}
+use Rattle.tht_tree.specs.Rules.Commands.{after_step, after_stmt}
 use Rattle.tht_tree.specs.Rules.Formed.{IsFormed}
-use Rattle.tht_tree.specs.Rules.Scoping.{variable_sort, name_sort, sequence_free, program_sort, equation_sort, sort_at, is_of, is_storable_sort, is_new, sort_of, assn_scoped, is_built_proof, stmt_scope}
+use Rattle.tht_tree.specs.Rules.Scoping.{variable_sort, name_sort, equation_sort, sort_at, is_of, is_storable_sort, sort_of, assn_scoped}
+use Rattle.tht_tree.specs.Walk.Names as walk
 use Rattle.tht_tree.proofs.TermFolds.{at-Var, at-Eq}
 use Rattle.tht_tree.proofs.TermValues.{Extends}
-use Rattle.hoare_rules.proofs.Choices.{both_true, if_some, some_same}
-use Rattle.hoare_rules.proofs.AtomLists.{order, below, same, above, ascends_from, ascends_to, Ascends-with, Ascends-without, All-with, All-without, All-at}
-use Rattle.hoare_rules.proofs.Scopes.{program_of, program_free, program_stored, stored_free, sort_of-Extends, storable-some, same_sort-refl, own_sorts, with_itself, Extends-with_local}
-use Rattle.hoare_rules.proofs.Statements.{read_context, write_context, alloc_context, free_context, reads, writes, allocs, frees}
-
--- ---- what the walk over names says of each statement
-
-pub record ReadScoped (x : List ℕ) (r : Sort) (t : Term) (h : List ℕ) (old new : Scope) : Type 0 where
-  pub plain : sequence_free t ≡ true
-  pub place : sort_of [] old t ≡ Some sort.Loc
-  pub storable : is_storable r ≡ true
-  pub new_name : is_new [] old x ≡ true
-  pub new_hyp : is_new [] (with_local old x (Variable r)) h ≡ true
-  pub after : new ≡ with_local (with_local old x (Variable r)) h Hypothesis
-
-pub read_scoped : (built : Bool) (x : List ℕ) (r : Sort) (t : Term) (h : List ℕ) (old new : Scope) →
-    cond (built && is_of sort.Loc (program_sort [] old t) && is_storable r && is_new [] old x && is_new [] (with_local old x (Variable r)) h)
-    (Some (with_local (with_local old x (Variable r)) h Hypothesis)) None ≡ Some new → ReadScoped x r t h old new
-read_scoped built x r t h old new e =
-    let all = if_some _ _ new e in
-    let three = both_true (built && is_of sort.Loc (program_sort [] old t) && is_storable r && is_new [] old x) (is_new [] (with_local old x (Variable r)) h) all.0 in
-    let two = both_true (built && is_of sort.Loc (program_sort [] old t) && is_storable r) (is_new [] old x) three.0 in
-    let one = both_true (built && is_of sort.Loc (program_sort [] old t)) (is_storable r) two.0 in
-    record {
-      plain = program_free old t sort.Loc (both_true built (is_of sort.Loc (program_sort [] old t)) one.0).1;
-      place = program_of old t sort.Loc (both_true built (is_of sort.Loc (program_sort [] old t)) one.0).1;
-      storable = one.1;
-      new_name = two.1;
-      new_hyp = three.1;
-      after = sym (some_same _ new all.1);
-    }
-
-pub record WriteScoped (t u : Term) (old new : Scope) : Type 0 where
-  pub plain : sequence_free t ≡ true
-  pub plain_value : sequence_free u ≡ true
-  pub place : sort_of [] old t ≡ Some sort.Loc
-  pub storable : is_storable_sort (sort_of [] old u) ≡ true
-  pub after : new ≡ old
-
-pub write_scoped : (built : Bool) (t u : Term) (old new : Scope) → cond (built && is_of sort.Loc (program_sort [] old t) && is_storable_sort (program_sort [] old u)) (Some old) None ≡ Some new → WriteScoped t u old new
-write_scoped built t u old new e =
-    let all = if_some _ _ new e in
-    let one = both_true (built && is_of sort.Loc (program_sort [] old t)) (is_storable_sort (program_sort [] old u)) all.0 in
-    let at = (both_true built (is_of sort.Loc (program_sort [] old t)) one.0).1 in
-    record {
-      plain = program_free old t sort.Loc at;
-      plain_value = stored_free old u one.1;
-      place = program_of old t sort.Loc at;
-      storable = program_stored old u one.1;
-      after = sym (some_same _ new all.1);
-    }
-
-pub record AllocScoped (x : List ℕ) (t : Term) (old new : Scope) : Type 0 where
-  pub plain : sequence_free t ≡ true
-  pub storable : is_storable_sort (sort_of [] old t) ≡ true
-  pub new_name : is_new [] old x ≡ true
-  pub after : new ≡ with_local old x (Variable sort.Loc)
-
-pub alloc_scoped : (x : List ℕ) (t : Term) (old new : Scope) → cond (is_storable_sort (program_sort [] old t) && is_new [] old x) (Some (with_local old x (Variable sort.Loc))) None ≡ Some new → AllocScoped x t old new
-alloc_scoped x t old new e =
-    let all = if_some _ _ new e in
-    let one = both_true (is_storable_sort (program_sort [] old t)) (is_new [] old x) all.0 in
-    record { plain = stored_free old t one.0; storable = program_stored old t one.0; new_name = one.1; after = sym (some_same _ new all.1) }
-
-pub record FreeScoped (t : Term) (old new : Scope) : Type 0 where
-  pub plain : sequence_free t ≡ true
-  pub place : sort_of [] old t ≡ Some sort.Loc
-  pub after : new ≡ old
-
-pub free_scoped : (built : Bool) (t : Term) (old new : Scope) → cond (built && is_of sort.Loc (program_sort [] old t)) (Some old) None ≡ Some new → FreeScoped t old new
-free_scoped built t old new e =
-    let all = if_some _ _ new e in
-    let at = (both_true built (is_of sort.Loc (program_sort [] old t)) all.0).1 in
-    record { plain = program_free old t sort.Loc at; place = program_of old t sort.Loc at; after = sym (some_same _ new all.1) }
+use Rattle.hoare_rules.specs.Cells.{undeclared}
+use Rattle.hoare_rules.specs.Names.{Tells}
+use Rattle.hoare_rules.specs.Steps.{IsAscending, read_context, write_context, alloc_context, free_context}
+use Rattle.hoare_rules.proofs.AtomLists.{order, below, same, above, Ascends, ascends_from, ascends_to, Ascends-with, Ascends-without, All-with, All-without, All-at}
+use Rattle.hoare_rules.proofs.Scopes.{sort_of-Extends, storable-some, same_sort-refl, own_sorts, with_itself, Extends-with_local}
+use Rattle.hoare_rules.proofs.Statements.{reads, writes, allocs, frees, haves}
+use Rattle.hoare_rules.proofs.Walked.{Walked, after, read_walked, write_walked, alloc_walked, free_walked, have_walked}
 
 -- ---- more names in scope
 
@@ -127,7 +66,7 @@ formed_free c i f = record {
 }
 
 -- the number of an atom that is there is at most the number made
-number_at : (n i : ℕ) (y : Assn) (es : List (ℕ × Assn)) → All (λ x. x.0 ≤ n) es → atom_at i es ≡ Some y → i ≤ n
+pub number_at : (n i : ℕ) (y : Assn) (es : List (ℕ × Assn)) → All (λ x. x.0 ≤ n) es → atom_at i es ≡ Some y → i ≤ n
 number_at n i y [] all e = cc
 number_at n i y (x ∷ es) all e = elim (order i x.0) [
   | below f l ↦ let h = All-head (λ x. x.0 ≤ n) x es all in omega arith
@@ -148,7 +87,7 @@ formed_write c t u value i f at storable =
 sort_of_new : (scope : Scope) (x : List ℕ) (r : Sort) → sort_of [] (with_local scope x (Variable r)) (term.Var x) ≡ Some r
 sort_of_new scope x r = at-Var (Option Sort) (sort_at [] (with_local scope x (Variable r))) x ∙ ap (λ l. name_sort (variable_sort l) None) (with_itself scope x (Variable r))
 
-pub formed_alloc : (c : Context) (x : List ℕ) (t : Term) → IsFormed [] c → is_storable_sort (sort_of [] c.scope t) ≡ true → is_new [] c.scope x ≡ true → IsFormed [] (alloc_context c x t)
+pub formed_alloc : (c : Context) (x : List ℕ) (t : Term) → IsFormed [] c → is_storable_sort (sort_of [] c.scope t) ≡ true → c.scope x ≡ None → IsFormed [] (alloc_context c x t)
 formed_alloc c x t f storable new_name =
     let scope = with_local c.scope x (Variable sort.Loc) in
     let i = c.made + 1 in
@@ -165,7 +104,7 @@ formed_alloc c x t f storable new_name =
       hyps = hyps_scoped c.scope scope extends c.hyps f.hyps;
     }
 
-pub formed_read : (c : Context) (x : List ℕ) (r : Sort) (h : List ℕ) (value : Term) → IsFormed [] c → sort_of [] c.scope value ≡ Some r → is_new [] c.scope x ≡ true → is_new [] (with_local c.scope x (Variable r)) h ≡ true →
+pub formed_read : (c : Context) (x : List ℕ) (r : Sort) (h : List ℕ) (value : Term) → IsFormed [] c → sort_of [] c.scope value ≡ Some r → c.scope x ≡ None → with_local c.scope x (Variable r) h ≡ None →
     IsFormed [] (read_context c x r h value)
 formed_read c x r h value f of_sort new_name new_hyp =
     let known = with_local c.scope x (Variable r) in
@@ -184,21 +123,78 @@ formed_read c x r h value f of_sort new_name new_hyp =
           (at-Eq (Option Sort) (sort_at [] scope) (term.Var x) value ∙ (λ i. equation_sort (left i) (right i)) ∙ ap (λ b. cond b (Some sort.Bool) None) (same_sort-refl r));
     }
 
-pub formed_after : (kind : StmtKind) (c d : Context) (new : Scope) → IsFormed [] c → stmt_scope [] kind c.scope ≡ Some new → after_stmt [] kind c ≡ Some d → IsFormed [] d × (d.scope ≡ new)
-formed_after (s.Read x r t i h p) c d new f e g =
-    let names = read_scoped (is_built_proof p.kind) x r t h c.scope new e in
-    let rule = reads c x r t i h p.kind d g in
-    (subst (IsFormed []) (sym rule.after) (formed_read c x r h rule.value f rule.of_sort names.new_name names.new_hyp), ap (λ z. z.scope) rule.after ∙ sym names.after)
-formed_after (s.Write t u i p) c d new f e g =
-    let names = write_scoped (is_built_proof p.kind) t u c.scope new e in
-    let rule = writes c t u i p.kind d g in
-    (subst (IsFormed []) (sym rule.after) (formed_write c t u rule.value i f rule.at names.storable), ap (λ z. z.scope) rule.after ∙ sym names.after)
-formed_after (s.Alloc x (t ∷ [])) c d new f e g =
-    let names = alloc_scoped x t c.scope new e in
-    let after = allocs c x t d g in
-    (subst (IsFormed []) (sym after) (formed_alloc c x t f names.storable names.new_name), ap (λ z. z.scope) after ∙ sym names.after)
-formed_after (s.Free t i p) c d new f e g =
-    let names = free_scoped (is_built_proof p.kind) t c.scope new e in
-    let rule = frees c t i p.kind d g in
-    (subst (IsFormed []) (sym rule.after) (formed_free c i f), ap (λ z. z.scope) rule.after ∙ sym names.after)
-formed_after _ c d new f e g = cc
+pub formed_have : (c : Context) (h : List ℕ) (t : Term) → IsFormed [] c → sort_of [] c.scope t ≡ Some sort.Bool → c.scope h ≡ None → IsFormed [] (with_hyp c h t)
+formed_have c h t f of_sort new_hyp =
+    let scope = with_local c.scope h Hypothesis in
+    let extends = Extends-with_local c.scope h Hypothesis new_hyp in
+    record {
+      ascending = f.ascending;
+      numbered = f.numbered;
+      atoms = atoms_scoped c.scope scope extends c.atoms f.atoms;
+      hyps = All-push (λ g. sort_of [] scope g.formula ≡ Some sort.Bool) c.hyps (record { name = h; formula = t }) (hyps_scoped c.scope scope extends c.hyps f.hyps)
+          (sort_of-Extends c.scope scope extends t sort.Bool of_sort);
+    }
+
+-- ---- after a statement
+
+-- what is known is in order, and the names in scope are those of the walk
+pub record Goes (d : Context) (names : walk.Scope) : Type 0 where
+  pub formed : IsFormed [] d
+  pub tells : Tells names d.scope
+
+goes_as : (c d : Context) (names : walk.Scope) → d ≡ c → IsFormed [] c → Tells names c.scope → Goes d names
+goes_as c d names e formed tells = subst (λ z. Goes z names) (sym e) (record { formed = formed; tells = tells })
+
+pub stored : (s : Sort) (o : Option Sort) → o ≡ Some s → is_storable s ≡ true → is_storable_sort o ≡ true
+stored s o e f = ap is_storable_sort e ∙ f
+
+module _ (spot : Spot) (f : Frame) (names : walk.Scope) (c d : Context) (formed : IsFormed [] c) (tells : Tells names c.scope) where
+  step_goes : (at : Spot) (kind : StepKind) → Walked spot f names c.scope tells (s.Proof (record { spot = at; kind = kind })) → after_step undeclared spot c kind ≡ Ok d
+      → Goes d (after spot f names c.scope tells (s.Proof (record { spot = at; kind = kind })))
+  step_goes at (k.Have h t p) e g =
+      let walked = have_walked spot f names c.scope tells at h t p e in
+      let rule = haves spot c d h t p g in
+      goes_as (with_hyp c h t) d _ rule.after (formed_have c h t formed walked.formula walked.new_hyp) walked.tells
+  step_goes at _ e g = cc
+
+  pub goes_after : (kind : StmtKind) → Walked spot f names c.scope tells kind → after_stmt undeclared spot c kind ≡ Ok d → Goes d (after spot f names c.scope tells kind)
+  goes_after (s.Read x r t i h p) e g =
+      let walked = read_walked spot f names c.scope tells x r t i h p e in
+      let rule = reads spot c d x r t i h p g in
+      goes_as (read_context c x r h rule.value) d _ rule.after (formed_read c x r h rule.value formed rule.of_sort walked.new_name walked.new_hyp) walked.tells
+  goes_after (s.Write t u i p) e g =
+      let walked = write_walked spot f names c.scope tells t u i p e in
+      let rule = writes spot c d t u i p g in
+      goes_as (write_context c i rule.place u) d _ rule.after
+      (formed_write c rule.place u rule.value i formed rule.at (stored walked.its_sort (sort_of [] c.scope u) walked.value.of_sort walked.value.storable)) walked.tells
+  goes_after (s.Alloc x (t ∷ [])) e g =
+      let walked = alloc_walked spot f names c.scope tells x t e in
+      let rule = allocs spot c d x t g in
+      goes_as (alloc_context c x t) d _ rule (formed_alloc c x t formed (stored walked.its_sort (sort_of [] c.scope t) walked.value.of_sort walked.value.storable) walked.new_name) walked.tells
+  goes_after (s.Free t i p) e g =
+      let walked = free_walked spot f names c.scope tells t i p e in
+      let rule = frees spot c d t i p g in
+      goes_as (free_context c i) d _ rule.after (formed_free c i formed) walked.tells
+  goes_after (s.Proof x) e g = step_goes x.spot x.kind e g
+  goes_after _ e g = cc
+
+-- ---- the order of the atoms
+
+ascends_as : (c d : Context) → d ≡ c → Ascends c.atoms → IsAscending d
+ascends_as c d e o = subst IsAscending (sym e) (ascends_to c.atoms o)
+
+module _ (spot : Spot) (c d : Context) (ascending : IsAscending c) where
+  step_ascends : (kind : StepKind) → after_step undeclared spot c kind ≡ Ok d → IsAscending d
+  step_ascends (k.Have h t p) g = subst IsAscending (sym (haves spot c d h t p g).after) ascending
+  step_ascends _ g = cc
+
+  pub still_ascending : (kind : StmtKind) → after_stmt undeclared spot c kind ≡ Ok d → IsAscending d
+  still_ascending (s.Read x r t i h p) g = subst IsAscending (sym (reads spot c d x r t i h p g).after) ascending
+  still_ascending (s.Write t u i p) g =
+      let rule = writes spot c d t u i p g in
+      ascends_as (write_context c i rule.place u) d rule.after (Ascends-with i (a.Own rule.place u) c.atoms (ascends_from c.atoms ascending))
+  still_ascending (s.Alloc x (t ∷ [])) g =
+      ascends_as (alloc_context c x t) d (allocs spot c d x t g) (Ascends-with (c.made + 1) (a.Own (term.Var x) t) c.atoms (ascends_from c.atoms ascending))
+  still_ascending (s.Free t i p) g = ascends_as (free_context c i) d (frees spot c d t i p g).after (Ascends-without i c.atoms (ascends_from c.atoms ascending))
+  still_ascending (s.Proof x) g = step_ascends x.kind g
+  still_ascending _ g = cc

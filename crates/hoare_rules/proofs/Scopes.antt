@@ -1,6 +1,6 @@
 -- What a new name in scope leaves as it was.
 use Rattle.std.proofs.Common.{◌≡◌, ℕ, suc, Bool, true, false, cond, List, [], ◌∷◌, ◌++◌, Option, Some, None, refl, sym, ◌∙◌, ap, subst, ◌⊎◌, inl, inr}
-use Rattle.std.specs.Prelude.{bytes_eq, All, is_none}
+use Rattle.std.specs.Prelude.{bytes_eq, All}
 use Rattle.std.proofs.lemmas.List.Elements.{All-head, All-tail}
 use Rattle.std.proofs.lemmas.Slice.Eq.{bytes_eq-Decides}
 use Rattle.tht_tree.specs.declared.assn.Assn.{Assn}
@@ -19,10 +19,10 @@ use Rattle.tht_tree.specs.Terms.{value_of}
 use Rattle.tht_tree.specs.Heaps.{Heap}
 use Rattle.tht_tree.specs.Satisfaction.{Satisfies, AtomsHold, HypsHold, HasSorts}
 use Rattle.tht_tree.specs.Rules.Context.{Scope, with_local}
-use Rattle.tht_tree.specs.Rules.Scoping.{same_sort, is_of, is_storable_sort, sort_of, sequence_free, program_sort, assn_scoped, is_new}
+use Rattle.tht_tree.specs.Rules.Scoping.{same_sort, is_of, is_storable_sort, sort_of, assn_scoped}
 use Rattle.tht_tree.proofs.TermValues.{Agree, Extends, same_sort-true}
 use Rattle.tht_tree.proofs.TermValues as terms
-use Rattle.hoare_rules.proofs.Choices.{both_true, if_some}
+use Rattle.hoare_rules.proofs.Choices.{both_true}
 use Rattle.hoare_rules.proofs.AtomLists.{Atoms}
 
 -- ---- names and sorts
@@ -49,27 +49,6 @@ pub storable-some : (o : Option Sort) → is_storable_sort o ≡ true → (s : S
 storable-some None e = cc
 storable-some (Some s) e = (s, refl, e)
 
--- the sort of a term of the program is the term's
-pub program_is : (scope : Scope) (t : Term) (s : Sort) → program_sort [] scope t ≡ Some s → sort_of [] scope t ≡ Some s
-program_is scope t s e = (if_some (sequence_free t) (sort_of [] scope t) s e).1
-
-pub program_of : (scope : Scope) (t : Term) (s : Sort) → is_of s (program_sort [] scope t) ≡ true → sort_of [] scope t ≡ Some s
-program_of scope t s e = program_is scope t s (is_of-true s (program_sort [] scope t) e)
-
-pub program_stored : (scope : Scope) (t : Term) → is_storable_sort (program_sort [] scope t) ≡ true → is_storable_sort (sort_of [] scope t) ≡ true
-program_stored scope t e =
-    let s = storable-some (program_sort [] scope t) e in
-    ap is_storable_sort (program_is scope t s.0 s.1) ∙ s.2
-
--- and no part of it makes a sequence
-pub program_free : (scope : Scope) (t : Term) (s : Sort) → is_of s (program_sort [] scope t) ≡ true → sequence_free t ≡ true
-program_free scope t s e = (if_some (sequence_free t) (sort_of [] scope t) s (is_of-true s (program_sort [] scope t) e)).0
-
-pub stored_free : (scope : Scope) (t : Term) → is_storable_sort (program_sort [] scope t) ≡ true → sequence_free t ≡ true
-stored_free scope t e =
-    let s = storable-some (program_sort [] scope t) e in
-    (if_some (sequence_free t) (sort_of [] scope t) s.0 s.1).0
-
 pub own_sorts : (scope : Scope) (t u : Term) → assn_scoped [] scope (a.Own t u) ≡ true → (sort_of [] scope t ≡ Some sort.Loc) × ((s : Sort) × (sort_of [] scope u ≡ Some s) × (is_storable s ≡ true))
 own_sorts scope t u e =
     let h = both_true (is_of sort.Loc (sort_of [] scope t)) (is_storable_sort (sort_of [] scope u)) e in
@@ -91,10 +70,6 @@ value_of_sort scope env sorts t s e f = terms.stored s (value_of env [] (trm [] 
 pub sort_of-Extends : (old new : Scope) → Extends old new → (t : Term) (s : Sort) → sort_of [] old t ≡ Some s → sort_of [] new t ≡ Some s
 sort_of-Extends old new extends = terms.sort_of-Extends [] old new (λ x r h. cc) extends
 
-none_of : (o : Option Local) → is_none o ≡ true → o ≡ None
-none_of None e = refl
-none_of (Some l) e = cc
-
 -- ---- a name that is bound
 
 with_other : (scope : Scope) (x : List ℕ) (l : Local) (y : List ℕ) → bytes_eq x y ≡ false → with_local scope x l y ≡ scope y
@@ -107,23 +82,22 @@ pub with_itself : (scope : Scope) (x : List ℕ) (l : Local) → with_local scop
 with_itself scope x l = with_here scope x l x ((bytes_eq-Decides x x).1 refl)
 
 -- what is in scope is not a new name
-not_new : (scope : Scope) (x y : List ℕ) (l : Local) → is_new [] scope x ≡ true → scope y ≡ Some l → bytes_eq x y ≡ true → ⊥
+not_new : (scope : Scope) (x y : List ℕ) (l : Local) → scope x ≡ None → scope y ≡ Some l → bytes_eq x y ≡ true → ⊥
 not_new scope x y l n e f =
     let g = ap scope ((bytes_eq-Decides x y).0 f) in
-    let h = none_of (scope x) n in
-    no_some (sym h ∙ g ∙ e)
+    no_some (sym n ∙ g ∙ e)
   where
     no_some : None ≡ Some l → ⊥
     no_some e = cc
 
-pub Extends-with_local : (scope : Scope) (x : List ℕ) (l : Local) → is_new [] scope x ≡ true → Extends scope (with_local scope x l)
+pub Extends-with_local : (scope : Scope) (x : List ℕ) (l : Local) → scope x ≡ None → Extends scope (with_local scope x l)
 Extends-with_local scope x l n y s e = elim (bytes_tell x y) [
   | inl h ↦ absurd (not_new scope x y (Variable s) n e h.0)
   | inr h ↦ with_other scope x l y h ∙ e
 ]
 
 -- the values of the names that were in scope
-pub Agree-bind : (scope : Scope) (env : Env) (x : List ℕ) (v : Val) → is_new [] scope x ≡ true → Agree [] scope env [] [] (bind env x v) [] []
+pub Agree-bind : (scope : Scope) (env : Env) (x : List ℕ) (v : Val) → scope x ≡ None → Agree [] scope env [] [] (bind env x v) [] []
 Agree-bind scope env x v n y s e = elim (bytes_tell x y) [
   | inl h ↦ absurd (not_new scope x y (Variable s) n e h.0)
   | inr h ↦ ap (λ c. cond c v (env y)) (sym h)

@@ -1,3 +1,7 @@
-pub mod Locals
-pub mod NamedCells
+pub mod Atoms
+pub mod Names
+pub mod Made
+pub mod Cells
+pub mod Steps
+pub mod BuiltProofs
 pub mod Laws

@@ -1,36 +1,24 @@
 // The atoms of a state: one found by its number, changed, added and taken away.
-ghost use Rattle.std.specs.Prelude.{◌≡◌, ◌<◌, ◌≤◌, ◌^◌, All, List, Some, OnOk, OnErr, OnSome, IfErr};
+ghost use Rattle.std.specs.Prelude.{◌≡◌, ◌<◌, ◌≤◌, ◌^◌, All, Some, OnOk, OnErr, OnSome, IfErr};
 ghost use Rattle.std.specs.Option.{option_copied};
 ghost use Rattle.tht_tree.specs.declared.assn.Assn.TheVariants.{Own};
 ghost use Rattle.tht_tree.specs.declared.term.Term.{Term};
 ghost use Rattle.tht_tree.specs.declared.term.Term.TheVariants.{Var};
 ghost use Rattle.tht_tree.specs.Rules.Context.{atom_at, with_atom, without_atom};
-ghost use Rattle.tht_tree.specs.Rules.Commands.{proves_equal, is_at_place};
-ghost use Rattle.hoare_rules.specs.NamedCells.{value_in_cell};
+ghost use Rattle.hoare_rules.specs.Atoms.{FindsCell};
 
-use crate::refusal::Refusal;
-use crate::sizes::pair_fits;
+use pure_proofs::Refusal;
 use sqlite_items::Boxed;
 use std::alloc::Global;
 use std::collections::BTreeMap;
 use std::mem;
 use tht_tree::assn::Assn;
-use tht_tree::plain::Name;
-use tht_tree::proof::ProofKind;
-use tht_tree::term::{Term, same_term};
+use tht_tree::plain::{Name, Spot};
+use tht_tree::rule::{RuleCode, RuleRefusal};
+use tht_tree::term::Term;
 
 /// The atoms by their numbers.
 pub(crate) type Atoms = BTreeMap<u32, Assn>;
-
-/// Whether the proof proves that the two terms are equal.
-fn proves_equality(proof: &ProofKind, a: &Term, b: &Term) -> bool
-    ensures { result ≡ proves_equal proof.now a.now b.now }
-{
-    match proof {
-        ProofKind::Refl => same_term(a, b),
-        _ => false,
-    }
-}
 
 /// The atom with this number, where none has a number above those made.
 fn find(atoms: &Atoms, made: u32, number: u64) -> Option<&Assn>
@@ -45,30 +33,39 @@ fn find(atoms: &Atoms, made: u32, number: u64) -> Option<&Assn>
     atoms.get(&key)
 }
 
-/// The cell that a statement names: by its place, the number of its atom, and the proof that the two agree.
+/// A cell: its place and its value.
 #[derive(Clone, Copy)]
-pub(crate) struct NamedCell<'a> {
+pub(crate) struct Cell<'a> {
     pub place: &'a Term,
-    pub number: u64,
-    pub proof: &'a ProofKind,
+    pub value: &'a Term,
 }
 
-/// The value in the cell, if there is such an atom and the proof shows that its place is the one that is named.
-pub(crate) fn cell_value<'a>(atoms: &'a Atoms, made: u32, cell: &NamedCell<'_>) -> Option<&'a Term>
-    requires { All (λ a. a.0 ≤ made) atoms.now.entries }
-    ensures value { option_copied result ≡ value_in_cell cell.now.proof.now cell.now.place.now (atom_at cell.now.number atoms.now.entries) }
-    ensures numbered { OnSome result (cell.now.number < 2 ^ 32) }
+/// The rules refuse the construct at this spot.
+pub(crate) fn refused(spot: Spot, code: RuleCode) -> Refusal
+    ensures { result ≡ Refusal.Rule (record { spot = spot; code = code }) }
 {
-    match find(atoms, made, cell.number)? {
-        Assn::Own(at, value) => {
-            let at = at.get();
-            if pair_fits(cell.place, at) && proves_equality(cell.proof, cell.place, at) {
-                Some(value.get())
-            } else {
-                None
-            }
-        }
-        _ => None,
+    Refusal::Rule(RuleRefusal { spot, code })
+}
+
+/// The cell of the atom with this number, where none has a number above those made. The construct at the spot is refused
+/// where there is no such atom, or it is no cell.
+pub(crate) fn cell_at(
+    atoms: &Atoms,
+    made: u32,
+    spot: Spot,
+    number: u64,
+) -> Result<Cell<'_>, Refusal>
+    requires { All (λ a. a.0 ≤ made) atoms.now.entries }
+    ensures cell { FindsCell result spot (atom_at number atoms.now.entries) }
+    ensures numbered { OnOk result (number < 2 ^ 32) }
+{
+    match find(atoms, made, number) {
+        Some(Assn::Own(place, value)) => Ok(Cell {
+            place: place.get(),
+            value: value.get(),
+        }),
+        Some(_) => Err(refused(spot, RuleCode::R2)),
+        None => Err(refused(spot, RuleCode::R1)),
     }
 }
 

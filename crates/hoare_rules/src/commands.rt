@@ -1,74 +1,275 @@
-// The rules of commands.
-ghost use Rattle.std.specs.Prelude.{◌≡◌, [], true, false, OnOk, IsErrOf};
-ghost use Rattle.tht_tree.specs.Bodies.{BodyKeeps};
+// The rules of statements, over what is known.
+ghost use Rattle.std.specs.Prelude.{◌≡◌, ◌∷◌, [], IfOk, IfErr};
+ghost use Rattle.tht_tree.specs.declared.term.Term.TheVariants.{Eq, Var};
 ghost use Rattle.tht_tree.specs.Rules.Context.{context_of};
-ghost use Rattle.tht_tree.specs.Rules.Commands.{gives, end_holds, holds};
-ghost use Rattle.tht_tree.specs.Rules.Formed.{IsFormed};
-ghost use Rattle.tht_tree.specs.Rules.Scoping.{body_scoped};
+ghost use Rattle.tht_tree.specs.Rules.Proofs.{prove as said_of, proves};
+ghost use Rattle.tht_tree.specs.Rules.Commands.{after_stmt, after_read, after_write, after_alloc, after_free, after_have, after_step};
+ghost use Rattle.pure_proofs.specs.Verdicts.{IsVerdict};
+ghost use Rattle.hoare_rules.specs.Cells.{Says, undeclared};
+ghost use Rattle.hoare_rules.specs.Steps.{IsAscending, learnt, written, freed};
 
-use crate::checker::Checker;
-use crate::refusal::Refusal;
+use crate::atoms::{add_cell, cell_at, refused, set_cell_value, take_atom};
+use crate::cells::{NamedCell, find_named};
+use crate::names::bind;
+use crate::sizes::{context_is_within, formula_fits, named_fits, named_size, pair_fits, pair_size};
+use pure_proofs::{Known, Refusal, prove};
+use sqlite_items::Boxed;
 use std::alloc::Global;
-use tht_tree::assn::Assn;
-use tht_tree::body::{Body, EndKind};
-use tht_tree::give::GiveKind;
-use tht_tree::state::{Post, State};
+use tht_tree::body::{Cells, Stmt, StmtKind};
+use tht_tree::plain::{Name, Sort, Spot};
+use tht_tree::proof::Proof;
+use tht_tree::rule::RuleCode;
+use tht_tree::state::{Hyp, Local};
+use tht_tree::step::StepKind;
+use tht_tree::term::{Term, term_size};
 
-/// Whether the body meets the postcondition from what is known. The context must be in order, and the walk over names
-/// and sorts must have passed the body.
-///
-/// The time is at most in proportion to the size of the statements and of the terms that they add, times the logarithm
-/// of the number of names and atoms.
-pub fn body_holds(alloc: Global, state: State, body: &Body, post: &Post) -> Result<(), Refusal>
-    requires formed { IsFormed [] (context_of state) }
-    requires scoped { body_scoped [] post.now.sort body.now (context_of state).scope ≡ true }
-    ensures ok { OnOk result (holds [] body.now post.now.assn (context_of state) ≡ true) }
-    ensures refused { IsErrOf result Refusal.Rule → holds [] body.now post.now.assn (context_of state) ≡ false }
-
-    // From each environment and heap that satisfy the context, the body is no fault and leaves the postcondition.
-    ensures sound { OnOk result (BodyKeeps [] (context_of state) body.now post.now) }
+/// Goes on over a statement. After an `Err` what is known is of no use.
+pub(crate) fn check_stmt(alloc: Global, known: &mut Known, stmt: &Stmt) -> Result<(), Refusal>
+    requires { IsAscending (context_of known.old.state) }
+    ensures { Says result (after_stmt undeclared stmt.now.spot (context_of known.old.state) stmt.now.kind) (context_of known.new.state) }
 {
-    let mut checker = Checker::new(state)?;
-    let result = check_body(alloc, &mut checker, body, post);
-    forget(checker);
-    result
+    check_kind(alloc, known, stmt.spot, &stmt.kind)
 }
 
-fn forget(checker: Checker) {
-    let _ = checker;
-}
-
-fn check_body(alloc: Global, checker: &mut Checker, body: &Body, post: &Post) -> Result<(), Refusal>
-    requires formed { IsFormed [] (context_of checker.old.state) }
-    requires scoped { body_scoped [] post.now.sort body.now (context_of checker.old.state).scope ≡ true }
-    ensures ok { OnOk result (holds [] body.now post.now.assn (context_of checker.old.state) ≡ true) }
-    ensures refused { IsErrOf result Refusal.Rule → holds [] body.now post.now.assn (context_of checker.old.state) ≡ false }
+// A statement, by its form.
+fn check_kind(alloc: Global, known: &mut Known, spot: Spot, kind: &StmtKind) -> Result<(), Refusal>
+    requires { IsAscending (context_of known.old.state) }
+    ensures { Says result (after_stmt undeclared spot (context_of known.old.state) kind.now) (context_of known.new.state) }
 {
-    for stmt in body.stmts.as_slice() {
-        checker.statement(alloc, &stmt.kind)?;
-    }
-    if end_is_met(&body.end.kind, &post.assn, &checker.state) {
-        Ok(())
-    } else {
-        Err(Refusal::Rule)
+    match kind {
+        StmtKind::Read(x, sort, place, number, hyp, proof) => {
+            let cell = named_cell(spot, place, *number, proof);
+            read(alloc, known, cell, x, *sort, hyp)
+        }
+        StmtKind::Write(place, value, number, proof) => {
+            let cell = named_cell(spot, place, *number, proof);
+            write(alloc, known, cell, value.get())
+        }
+        StmtKind::Alloc(x, cells) => allocate_cells(alloc, known, spot, x, cells),
+        StmtKind::Free(place, number, proof) => {
+            let cell = named_cell(spot, place, *number, proof);
+            free(alloc, known, cell)
+        }
+        StmtKind::Proof(step) => check_step(alloc, known, spot, &step.kind),
+        _ => Err(refused(spot, RuleCode::R5)),
     }
 }
 
-// Whether the end gives the postcondition, and no atom is left.
-fn end_is_met(end: &EndKind, post: &Assn, state: &State) -> bool
-    ensures { result ≡ end_holds end.now post.now (context_of state.now) }
+fn named_cell<'a>(
+    spot: Spot,
+    place: &'a Boxed<Term>,
+    number: u64,
+    proof: &'a Proof,
+) -> NamedCell<'a>
+    ensures spot { result.spot ≡ spot }
+    ensures place { result.place.now ≡ place.now }
+    ensures number { result.number ≡ number }
+    ensures proof { result.proof.now ≡ proof.now }
 {
-    match end {
-        EndKind::Ret(_, give) => give_proves(&give.kind, post) && state.atoms.is_empty(),
-        _ => false,
+    NamedCell {
+        spot,
+        place: place.get(),
+        number,
+        proof,
     }
 }
 
-fn give_proves(give: &GiveKind, assn: &Assn) -> bool
-    ensures { result ≡ gives give.now assn.now }
+// ---- reads
+
+fn read(
+    alloc: Global,
+    known: &mut Known,
+    cell: NamedCell<'_>,
+    name: &Name,
+    sort: Sort,
+    hyp: &Name,
+) -> Result<(), Refusal>
+    ensures { Says result (after_read undeclared cell.entry.spot (context_of known.old.state) name.now sort cell.entry.place.now cell.entry.number hyp.now cell.entry.proof.now) (context_of known.new.state) }
 {
-    match (give, assn) {
-        (GiveKind::Emp, Assn::Emp) => true,
-        _ => false,
+    find_named(alloc, known, cell, Some(sort))?;
+    learn(alloc, known, cell, name, sort, hyp)
+}
+
+// The name has the value that was read.
+fn learn(
+    alloc: Global,
+    known: &mut Known,
+    cell: NamedCell<'_>,
+    name: &Name,
+    sort: Sort,
+    hyp: &Name,
+) -> Result<(), Refusal>
+    ensures { Says result (learnt cell.entry.spot (context_of known.old.state) cell.entry.number name.now sort hyp.now) (context_of known.new.state) }
+{
+    let found = cell_at(&known.state.atoms, known.state.made, cell.spot, cell.number)?;
+    let hyp = equation(alloc, hyp, name, found.value)?;
+    bind(alloc, &mut known.state.scope, name, Local::Variable(sort))?;
+    known.assume(cell.spot, hyp)?;
+    Ok(())
+}
+
+// The hypothesis that the name and the term are equal.
+fn equation(alloc: Global, hyp: &Name, name: &Name, value: &Term) -> Result<Hyp, Refusal>
+    ensures ok { IfOk result (λ h. h ≡ record { name = hyp.now; formula = Eq (Var name.now) value.now }) }
+    ensures memory { IfErr result (λ e. e ≡ Refusal.Memory) }
+{
+    let left = Boxed::new(alloc, Term::Var(name.copy()?))?;
+    let right = Boxed::new(alloc, value.copy(alloc)?)?;
+    Ok(Hyp {
+        name: hyp.copy()?,
+        formula: Term::Eq(left, right),
+    })
+}
+
+// ---- writes
+
+fn write(alloc: Global, known: &mut Known, cell: NamedCell<'_>, value: &Term) -> Result<(), Refusal>
+    requires { IsAscending (context_of known.old.state) }
+    ensures { Says result (after_write undeclared cell.entry.spot (context_of known.old.state) cell.entry.place.now value.now cell.entry.number cell.entry.proof.now) (context_of known.new.state) }
+{
+    find_named(alloc, known, cell, None)?;
+    put_value(alloc, known, cell, value)
+}
+
+// The cell has another value.
+fn put_value(
+    alloc: Global,
+    known: &mut Known,
+    cell: NamedCell<'_>,
+    value: &Term,
+) -> Result<(), Refusal>
+    requires { IsAscending (context_of known.old.state) }
+    ensures { Says result (written cell.entry.spot (context_of known.old.state) cell.entry.number value.now) (context_of known.new.state) }
+{
+    let found = cell_at(&known.state.atoms, known.state.made, cell.spot, cell.number)?;
+    if !pair_fits(found.place, value) {
+        return Err(refused(cell.spot, RuleCode::R10));
     }
+    let nodes = (known.nodes - term_size(found.value)).saturating_add(term_size(value));
+    if !context_is_within(nodes) {
+        return Err(refused(cell.spot, RuleCode::R10));
+    }
+    let value = value.copy(alloc)?;
+    let value = Boxed::new(alloc, value)?;
+    set_cell_value(&mut known.state.atoms, cell.number, value);
+    known.nodes = nodes;
+    Ok(())
+}
+
+// ---- frees
+
+fn free(alloc: Global, known: &mut Known, cell: NamedCell<'_>) -> Result<(), Refusal>
+    ensures { Says result (after_free undeclared cell.entry.spot (context_of known.old.state) cell.entry.place.now cell.entry.number cell.entry.proof.now) (context_of known.new.state) }
+{
+    find_named(alloc, known, cell, None)?;
+    take(known, cell)
+}
+
+// The cell is there no more.
+fn take(known: &mut Known, cell: NamedCell<'_>) -> Result<(), Refusal>
+    ensures { Says result (freed cell.entry.spot (context_of known.old.state) cell.entry.number) (context_of known.new.state) }
+{
+    let found = cell_at(&known.state.atoms, known.state.made, cell.spot, cell.number)?;
+    let nodes = known.nodes - pair_size(found.place, found.value);
+    if !context_is_within(nodes) {
+        return Err(refused(cell.spot, RuleCode::R10));
+    }
+    take_atom(&mut known.state.atoms, cell.number);
+    known.nodes = nodes;
+    Ok(())
+}
+
+// ---- allocs
+
+fn allocate_cells(
+    alloc: Global,
+    known: &mut Known,
+    spot: Spot,
+    name: &Name,
+    cells: &Cells,
+) -> Result<(), Refusal>
+    requires { IsAscending (context_of known.old.state) }
+    ensures { Says result (after_stmt undeclared spot (context_of known.old.state) (StmtKind.Alloc name.now cells.now)) (context_of known.new.state) }
+{
+    match cells.as_slice() {
+        [value] => allocate(alloc, known, spot, name, value),
+        _ => Err(refused(spot, RuleCode::R5)),
+    }
+}
+
+fn allocate(
+    alloc: Global,
+    known: &mut Known,
+    spot: Spot,
+    name: &Name,
+    value: &Term,
+) -> Result<(), Refusal>
+    requires { IsAscending (context_of known.old.state) }
+    ensures { Says result (after_alloc undeclared spot (context_of known.old.state) name.now value.now) (context_of known.new.state) }
+{
+    if !named_fits(value) {
+        return Err(refused(spot, RuleCode::R10));
+    }
+    let Some(number) = known.state.made.checked_add(1) else {
+        return Err(refused(spot, RuleCode::R10));
+    };
+    let nodes = known.nodes.saturating_add(named_size(value));
+    if !context_is_within(nodes) {
+        return Err(refused(spot, RuleCode::R10));
+    }
+    let place = Local::Variable(Sort::Loc);
+    bind(alloc, &mut known.state.scope, name, place)?;
+    add_cell(alloc, &mut known.state.atoms, number, name, value)?;
+    known.state.made = number;
+    known.nodes = nodes;
+    Ok(())
+}
+
+// ---- proof steps
+
+fn check_step(alloc: Global, known: &mut Known, spot: Spot, step: &StepKind) -> Result<(), Refusal>
+    ensures { Says result (after_step undeclared spot (context_of known.old.state) step.now) (context_of known.new.state) }
+{
+    match step {
+        StepKind::Have(hyp, formula, proof) => {
+            have(alloc, known, spot, hyp, formula.get(), proof)
+        }
+        _ => Err(refused(spot, RuleCode::R5)),
+    }
+}
+
+fn have(
+    alloc: Global,
+    known: &mut Known,
+    spot: Spot,
+    hyp: &Name,
+    formula: &Term,
+    proof: &Proof,
+) -> Result<(), Refusal>
+    ensures { Says result (after_have undeclared spot (context_of known.old.state) hyp.now formula.now proof.now) (context_of known.new.state) }
+{
+    prove_fitting(alloc, known, spot, formula, proof)?;
+    let hyp = Hyp {
+        name: hyp.copy()?,
+        formula: formula.copy(alloc)?,
+    };
+    known.assume(spot, hyp)?;
+    Ok(())
+}
+
+// Whether the formula is not too large, and proved. What is known stays as it was.
+fn prove_fitting(
+    alloc: Global,
+    known: &mut Known,
+    spot: Spot,
+    formula: &Term,
+    proof: &Proof,
+) -> Result<(), Refusal>
+    ensures verdict { IsVerdict result (proves spot (said_of undeclared proof.now) (context_of known.old.state) formula.now) }
+    ensures kept { context_of known.new.state ≡ context_of known.old.state }
+{
+    if !formula_fits(formula) {
+        return Err(refused(spot, RuleCode::R10));
+    }
+    prove(proof, alloc, &[], known, formula)
 }

@@ -1,20 +1,19 @@
-//! The rules of the checker: the names and sorts of a file, and the rules of commands.
+//! The rules of commands: what the checker knows after a statement, and the first that is refused in a body.
 #![tactic(auto)]
 
 mod atoms;
-mod checker;
+mod bodies;
+mod built;
+mod cells;
 mod commands;
 mod laws;
-mod refusal;
-mod scope;
+mod names;
 mod sizes;
-mod sorts;
-mod terms;
 
-pub use commands::body_holds;
+pub use bodies::body_holds;
+pub use built::is_built;
 pub use laws::{accepted_is_sound, keeps_fewer};
-pub use refusal::Refusal;
-pub use sorts::{WalkEnd, well_sorted};
+pub use pure_proofs::Refusal;
 
 #[cfg(test)]
 mod tests;

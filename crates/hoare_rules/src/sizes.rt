@@ -1,13 +1,9 @@
 // The sizes of what is known, and their limits.
-ghost use Rattle.std.specs.Prelude.{◌≡◌, ◌+◌, ◌-◌, ◌^◌, ℕ, List, min, nat_le, sum_by};
+ghost use Rattle.std.specs.Prelude.{◌≡◌, ◌+◌, ◌-◌, ◌^◌, ℕ, List, min, nat_le};
 ghost use Rattle.tht_tree.specs.declared.assn.Assn.TheVariants.{Own};
 ghost use Rattle.tht_tree.specs.declared.term.Term.TheVariants.{Eq, Var};
-ghost use Rattle.tht_tree.specs.Rules.Context.{context_of, context_nodes};
-ghost use Rattle.tht_tree.specs.Rules.Sizes.{nodes, assn_nodes, is_within as within, formula_fits, assn_fits};
+ghost use Rattle.tht_tree.specs.Rules.Sizes.{nodes, is_within as within, formula_fits as fits, assn_fits};
 
-use std::collections::BTreeMap;
-use tht_tree::assn::{Assn, assn_size};
-use tht_tree::state::{Hyp, State};
 use tht_tree::term::{Term, term_levels, term_size};
 
 /// The most nodes of one formula: a hypothesis, a goal or an atom.
@@ -32,6 +28,13 @@ pub(crate) fn context_is_within(nodes: u64) -> bool
     nodes <= CONTEXT_NODES
 }
 
+/// Whether the formula is within the limits of one formula.
+pub(crate) fn formula_fits(formula: &Term) -> bool
+    ensures { result ≡ fits formula.now }
+{
+    is_within(term_size(formula), term_levels(formula))
+}
+
 /// How many nodes an equation or a cell of two terms has: at most 2^64 - 1, where the count stays.
 pub(crate) fn pair_size(a: &Term, b: &Term) -> u64
     ensures { result ≡ min (nodes a.now + nodes b.now + 1) (2 ^ 64 - 1) }
@@ -42,7 +45,7 @@ pub(crate) fn pair_size(a: &Term, b: &Term) -> u64
 /// Whether an equation or a cell of the two terms is within the limits of one formula.
 #[tactic(auto, using(crate::proofs::CellSizes::own_nodes, crate::proofs::CellSizes::own_levels))]
 pub(crate) fn pair_fits(a: &Term, b: &Term) -> bool
-    ensures equation { result ≡ formula_fits (Eq a.now b.now) }
+    ensures equation { result ≡ fits (Eq a.now b.now) }
     ensures cell { result ≡ assn_fits (Own a.now b.now) }
 {
     let levels = term_levels(a).max(term_levels(b)).saturating_add(1);
@@ -59,36 +62,9 @@ pub(crate) fn named_size(value: &Term) -> u64
 /// Whether an equation or a cell of a name and the term is within the limits of one formula.
 #[tactic(auto, using(crate::proofs::CellSizes::named_nodes, crate::proofs::CellSizes::named_levels))]
 pub(crate) fn named_fits(value: &Term) -> bool
-    ensures equation { (x : List ℕ) → result ≡ formula_fits (Eq (Var x) value.now) }
+    ensures equation { (x : List ℕ) → result ≡ fits (Eq (Var x) value.now) }
     ensures cell { (x : List ℕ) → result ≡ assn_fits (Own (Var x) value.now) }
 {
     let levels = term_levels(value).max(1).saturating_add(1);
     is_within(named_size(value), levels)
-}
-
-/// How many nodes the hypotheses and the atoms have: at most 2^64 - 1, where the count stays.
-pub(crate) fn state_size(state: &State) -> u64
-    ensures { result ≡ min (context_nodes (context_of state.now)) (2 ^ 64 - 1) }
-{
-    hyps_size(state.hyps.as_slice()).saturating_add(atoms_size(&state.atoms))
-}
-
-fn hyps_size(hyps: &[Hyp]) -> u64
-    ensures { result ≡ min (sum_by (λ h. nodes h.formula) hyps.now) (2 ^ 64 - 1) }
-{
-    let mut total: u64 = 0;
-    for hyp in hyps {
-        total = total.saturating_add(term_size(&hyp.formula));
-    }
-    total
-}
-
-fn atoms_size(atoms: &BTreeMap<u32, Assn>) -> u64
-    ensures { result ≡ min (sum_by (λ a. assn_nodes a.1) atoms.now.entries) (2 ^ 64 - 1) }
-{
-    let mut total: u64 = 0;
-    for atom in atoms.values() {
-        total = total.saturating_add(assn_size(atom));
-    }
-    total
 }

@@ -1,26 +1,28 @@
-// Small files, walked and checked. What each answer must be is worked out by hand from the rules.
-ghost use Rattle.std.specs.Prelude.{◌≡◌, IfSome};
-
-use crate::commands::body_holds;
-use crate::refusal::Refusal;
-use crate::sorts::{WalkEnd, well_sorted};
+// Small bodies. What each answer must be is worked out by hand from the rules.
+use crate::bodies::body_holds;
+use pure_proofs::Refusal;
 use sqlite_items::{Boxed, Items};
 use std::alloc::{AllocError, Global};
 use std::test::Fail;
 use tht_tree::assn::Assn;
 use tht_tree::body::{Body, Cells, End, EndKind, Stmt, StmtKind};
-use tht_tree::file::{Main, Source1};
 use tht_tree::give::{Give, GiveKind};
 use tht_tree::plain::{Name, Sort, Spot};
 use tht_tree::proof::{Proof, ProofKind};
+use tht_tree::rule::{RuleCode, RuleRefusal};
 use tht_tree::state::{Post, State};
+use tht_tree::step::{Step, StepKind};
 use tht_tree::term::Term;
 
-const SPOT: Spot = Spot { line: 1, column: 1 };
+// The n-th statement stands on line n; its proof at column 9, the end of the body on line 99.
+const END: Spot = Spot {
+    line: 99,
+    column: 1,
+};
 
-fn refl() -> Proof {
+fn refl(line: u32) -> Proof {
     Proof {
-        spot: SPOT,
+        spot: Spot { line, column: 9 },
         kind: ProofKind::Refl,
     }
 }
@@ -33,22 +35,31 @@ fn var(alloc: Global, text: &str) -> Result<Term, AllocError> {
     Ok(Term::Var(name(alloc, text)?))
 }
 
-/// The statements of a main, whose result is the number `r`, and which leaves no cell.
+/// The statements of a body, which leaves no cell.
 struct Statements {
     alloc: Global,
     stmts: Items<Stmt>,
+    line: u32,
 }
 
 impl Drop for Statements {
     fn drop(self) {
-        let Statements { alloc: _, stmts: _ } = self;
+        let Statements {
+            alloc: _,
+            stmts: _,
+            line: _,
+        } = self;
     }
 }
 
 impl Statements {
     fn new(alloc: Global) -> Statements {
         let stmts = Items::new(alloc);
-        Statements { alloc, stmts }
+        Statements {
+            alloc,
+            stmts,
+            line: 1,
+        }
     }
 
     fn place(&self, x: &str) -> Result<Boxed<Term>, AllocError> {
@@ -57,7 +68,12 @@ impl Statements {
     }
 
     fn push(&mut self, kind: StmtKind) -> Result<(), AllocError> {
-        self.stmts.push(Stmt { spot: SPOT, kind })
+        let spot = Spot {
+            line: self.line,
+            column: 1,
+        };
+        self.line = self.line.saturating_add(1);
+        self.stmts.push(Stmt { spot, kind })
     }
 
     /// `x <- alloc (value)`
@@ -72,7 +88,7 @@ impl Statements {
         let y = name(self.alloc, y)?;
         let hyp = name(self.alloc, "h")?;
         let place = self.place(x)?;
-        self.push(StmtKind::Read(y, sort, place, number, hyp, refl()))
+        self.push(StmtKind::Read(y, sort, place, number, hyp, refl(self.line)))
     }
 
     /// `write x (y + 1) at number by refl`
@@ -81,237 +97,151 @@ impl Statements {
         let left = self.place(y)?;
         let right = Boxed::new(self.alloc, Term::Num(1))?;
         let value = Boxed::new(self.alloc, Term::Add(left, right))?;
-        self.push(StmtKind::Write(place, value, number, refl()))
+        self.push(StmtKind::Write(place, value, number, refl(self.line)))
     }
 
     /// `free x at number by refl`
     fn free(&mut self, x: &str, number: u64) -> Result<(), AllocError> {
         let place = self.place(x)?;
-        self.push(StmtKind::Free(place, number, refl()))
+        self.push(StmtKind::Free(place, number, refl(self.line)))
     }
 
-    /// `ret value by emp`
-    fn ret(self, value: Term) -> Result<Source1, AllocError> {
-        let alloc = self.alloc;
-        let value = Boxed::new(alloc, value)?;
-        let body = self.returning(value)?;
-        main_of(alloc, body)
+    /// `have h : a = b by refl`
+    fn have_equal(&mut self, h: &str, a: Term, b: Term) -> Result<(), AllocError> {
+        let h = name(self.alloc, h)?;
+        let left = Boxed::new(self.alloc, a)?;
+        let right = Boxed::new(self.alloc, b)?;
+        let equation = Boxed::new(self.alloc, Term::Eq(left, right))?;
+        let spot = Spot {
+            line: self.line,
+            column: 1,
+        };
+        let kind = StepKind::Have(h, equation, refl(self.line));
+        self.push(StmtKind::Proof(Step { spot, kind }))
     }
 
-    fn returning(self, value: Boxed<Term>) -> Result<Boxed<Body>, AllocError> {
-        let Statements { alloc, stmts } = self;
+    /// `ret 0 by emp`
+    fn done(self) -> Result<Boxed<Body>, AllocError> {
+        let Statements {
+            alloc,
+            stmts,
+            line: _,
+        } = self;
+        let value = Boxed::new(alloc, Term::Num(0))?;
         let give = Give {
-            spot: SPOT,
+            spot: END,
             kind: GiveKind::Emp,
         };
         let end = End {
-            spot: SPOT,
+            spot: END,
             kind: EndKind::Ret(value, give),
         };
         Boxed::new(alloc, Body { stmts, end })
     }
 }
 
-/// `main r : nat { emp } { .. }`
-fn main_of(alloc: Global, body: Boxed<Body>) -> Result<Source1, AllocError> {
-    let result = name(alloc, "r")?;
-    Ok(Source1 {
-        version: 1,
-        decls: Items::new(alloc),
-        main: Main {
-            spot: SPOT,
-            result,
-            sort: Sort::Nat,
-            post: Assn::Emp,
-            body,
-        },
+fn post(alloc: Global) -> Result<Post, AllocError> {
+    Ok(Post {
+        result: name(alloc, "r")?,
+        sort: Sort::Nat,
+        assn: Assn::Emp,
     })
 }
 
-#[derive(Clone, Copy, Debug, PartialEq, Eq)]
-enum Answer {
-    Accepted,
-    BadNames,
-    BadRule,
-    Memory,
-}
-
-fn answer_of_walk(end: WalkEnd) -> Answer {
-    match end {
-        WalkEnd::Refused => Answer::BadNames,
-        WalkEnd::Memory => Answer::Memory,
+// Whether the rules take the body; else the line, the column and the code of what they refuse.
+fn check(alloc: Global, body: &Body) -> Result<Option<RuleRefusal>, AllocError> {
+    let post = post(alloc)?;
+    match body_holds(alloc, State::new(alloc), body, &post) {
+        Ok(()) => Ok(None),
+        Err(Refusal::Rule(refusal)) => Ok(Some(refusal)),
+        Err(Refusal::Memory) => Err(AllocError),
     }
 }
 
-fn answer_of_rules(end: Result<(), Refusal>) -> Answer {
-    match end {
-        Ok(()) => Answer::Accepted,
-        Err(Refusal::Rule) => Answer::BadRule,
-        Err(Refusal::Memory) => Answer::Memory,
-    }
-}
-
-fn post_of(alloc: Global, main: &Main) -> Option<Post>
-    ensures { IfSome result (λ p. p.sort ≡ main.now.sort) }
-{
-    let result = main.result.copy().ok()?;
-    let assn = main.post.copy(alloc).ok()?;
-    let sort = main.sort;
-    Some(Post { result, sort, assn })
-}
-
-fn check(alloc: Global, file: &Source1) -> Answer {
-    match well_sorted(alloc, file) {
-        Err(end) => answer_of_walk(end),
-        Ok(()) => {
-            let Some(post) = post_of(alloc, &file.main) else {
-                return Answer::Memory;
-            };
-            answer_of_rules(body_holds(alloc, State::new(alloc), file.main.body.get(), &post))
-        }
-    }
+fn refused(line: u32, column: u32, code: RuleCode) -> Option<RuleRefusal> {
+    let spot = Spot { line, column };
+    Some(RuleRefusal { spot, code })
 }
 
 // A cell is made, read, written and freed.
-fn freed_cell(alloc: Global) -> Result<Source1, AllocError> {
+fn freed_cell(alloc: Global) -> Result<Boxed<Body>, AllocError> {
     let mut stmts = Statements::new(alloc);
     stmts.alloc("x", Term::Num(5))?;
     stmts.read("y", Sort::Nat, "x", 1)?;
     stmts.write_next("x", "y", 1)?;
     stmts.free("x", 1)?;
-    stmts.ret(var(alloc, "y")?)
+    stmts.done()
 }
 
 // The cell of atom 1 is left.
-fn left_cell(alloc: Global) -> Result<Source1, AllocError> {
+fn left_cell(alloc: Global) -> Result<Boxed<Body>, AllocError> {
     let mut stmts = Statements::new(alloc);
     stmts.alloc("x", Term::Num(5))?;
-    stmts.ret(Term::Num(0))
+    stmts.done()
 }
 
 // One atom is made, so there is none with number 2.
-fn missing_atom(alloc: Global) -> Result<Source1, AllocError> {
+fn missing_atom(alloc: Global) -> Result<Boxed<Body>, AllocError> {
     let mut stmts = Statements::new(alloc);
     stmts.alloc("x", Term::Num(5))?;
     stmts.free("x", 2)?;
-    stmts.ret(Term::Num(0))
+    stmts.done()
 }
 
 // Atom 1 is the cell at x.
-fn wrong_place(alloc: Global) -> Result<Source1, AllocError> {
+fn wrong_place(alloc: Global) -> Result<Boxed<Body>, AllocError> {
     let mut stmts = Statements::new(alloc);
     stmts.alloc("x", Term::Num(5))?;
     stmts.alloc("z", Term::Num(6))?;
     stmts.free("z", 1)?;
     stmts.free("x", 2)?;
-    stmts.ret(Term::Num(0))
+    stmts.done()
 }
 
 // The cell holds a number.
-fn wrong_sort(alloc: Global) -> Result<Source1, AllocError> {
+fn wrong_sort(alloc: Global) -> Result<Boxed<Body>, AllocError> {
     let mut stmts = Statements::new(alloc);
     stmts.alloc("x", Term::Num(5))?;
     stmts.read("y", Sort::Unit, "x", 1)?;
     stmts.free("x", 1)?;
-    stmts.ret(Term::Num(0))
+    stmts.done()
 }
 
-fn unknown_name(alloc: Global) -> Result<Source1, AllocError> {
-    Statements::new(alloc).ret(var(alloc, "y")?)
-}
-
-fn name_bound_twice(alloc: Global) -> Result<Source1, AllocError> {
+// `have h : 1 = 1`, and `have g : 1 = 2`, each by `refl`.
+fn had(alloc: Global, right: u128) -> Result<Boxed<Body>, AllocError> {
     let mut stmts = Statements::new(alloc);
-    stmts.alloc("x", Term::Num(5))?;
-    stmts.free("x", 1)?;
-    stmts.alloc("x", Term::Num(6))?;
-    stmts.free("x", 2)?;
-    stmts.ret(Term::Num(0))
-}
-
-fn hypothesis_as_variable(alloc: Global) -> Result<Source1, AllocError> {
-    let mut stmts = Statements::new(alloc);
-    stmts.alloc("x", Term::Num(5))?;
-    stmts.read("y", Sort::Nat, "x", 1)?;
-    stmts.free("x", 1)?;
-    stmts.ret(var(alloc, "h")?)
-}
-
-// A cell can hold a truth.
-fn cell_of_bool(alloc: Global) -> Result<Source1, AllocError> {
-    let mut stmts = Statements::new(alloc);
-    stmts.alloc("x", Term::True)?;
-    stmts.read("y", Sort::Bool, "x", 1)?;
-    stmts.free("x", 1)?;
-    stmts.ret(Term::Num(0))
-}
-
-// `len nil` is a number, and `nil` is of the logic alone.
-fn sequence_in_a_program(alloc: Global) -> Result<Source1, AllocError> {
-    let nil = Boxed::new(alloc, Term::Nil)?;
-    Statements::new(alloc).ret(Term::Len(nil))
-}
-
-// `len 0` has no sort.
-fn length_of_a_number(alloc: Global) -> Result<Source1, AllocError> {
-    let zero = Boxed::new(alloc, Term::Num(0))?;
-    Statements::new(alloc).ret(Term::Len(zero))
-}
-
-// A truth is returned for a number.
-fn truth_for_a_number(alloc: Global) -> Result<Source1, AllocError> {
-    let zero = Boxed::new(alloc, Term::Num(0))?;
-    let one = Boxed::new(alloc, Term::Num(1))?;
-    Statements::new(alloc).ret(Term::Lt(zero, one))
-}
-
-// A place is returned for a number.
-fn sort_clash(alloc: Global) -> Result<Source1, AllocError> {
-    let mut stmts = Statements::new(alloc);
-    stmts.alloc("x", Term::Num(5))?;
-    stmts.free("x", 1)?;
-    stmts.ret(var(alloc, "x")?)
+    stmts.have_equal("h", Term::Num(1), Term::Num(right))?;
+    stmts.done()
 }
 
 #[test]
-fn a_freed_cell_is_accepted(rt: HostRuntime) -> Result<(), Fail> {
+fn bodies_are_taken(rt: HostRuntime) -> Result<(), Fail> {
     let alloc = rt.alloc();
-    assert_eq!(rt; check(alloc, &freed_cell(alloc)?), Answer::Accepted);
-    assert_eq!(rt; check(alloc, &cell_of_bool(alloc)?), Answer::Accepted);
+    let freed = freed_cell(alloc)?;
+    assert_eq!(rt; check(alloc, freed.get())?, None);
+    let had = had(alloc, 1)?;
+    assert_eq!(rt; check(alloc, had.get())?, None);
     Ok(())
 }
 
 #[test]
-fn rules_refuse(rt: HostRuntime) -> Result<(), Fail> {
+fn atoms_are_asked_for(rt: HostRuntime) -> Result<(), Fail> {
     let alloc = rt.alloc();
-    assert_eq!(rt; check(alloc, &left_cell(alloc)?), Answer::BadRule);
-    assert_eq!(rt; check(alloc, &missing_atom(alloc)?), Answer::BadRule);
-    assert_eq!(rt; check(alloc, &wrong_place(alloc)?), Answer::BadRule);
-    assert_eq!(rt; check(alloc, &wrong_sort(alloc)?), Answer::BadRule);
+    let left = left_cell(alloc)?;
+    assert_eq!(rt; check(alloc, left.get())?, refused(99, 1, RuleCode::R3));
+    let missing = missing_atom(alloc)?;
+    assert_eq!(rt; check(alloc, missing.get())?, refused(2, 1, RuleCode::R1));
+    let sort = wrong_sort(alloc)?;
+    assert_eq!(rt; check(alloc, sort.get())?, refused(2, 1, RuleCode::R2));
     Ok(())
 }
 
 #[test]
-fn the_walk_refuses(rt: HostRuntime) -> Result<(), Fail> {
+fn proofs_are_asked_for(rt: HostRuntime) -> Result<(), Fail> {
     let alloc = rt.alloc();
-    assert_eq!(rt; check(alloc, &unknown_name(alloc)?), Answer::BadNames);
-    assert_eq!(rt; check(alloc, &name_bound_twice(alloc)?), Answer::BadNames);
-    assert_eq!(rt;
-        check(alloc, &hypothesis_as_variable(alloc)?),
-        Answer::BadNames
-    );
-    assert_eq!(rt; check(alloc, &sort_clash(alloc)?), Answer::BadNames);
-    Ok(())
-}
-
-#[test]
-fn the_walk_refuses_terms(rt: HostRuntime) -> Result<(), Fail> {
-    let alloc = rt.alloc();
-    assert_eq!(rt;
-        check(alloc, &sequence_in_a_program(alloc)?),
-        Answer::BadNames
-    );
-    assert_eq!(rt; check(alloc, &length_of_a_number(alloc)?), Answer::BadNames);
-    assert_eq!(rt; check(alloc, &truth_for_a_number(alloc)?), Answer::BadNames);
+    let place = wrong_place(alloc)?;
+    assert_eq!(rt; check(alloc, place.get())?, refused(3, 9, RuleCode::R5));
+    let had = had(alloc, 2)?;
+    assert_eq!(rt; check(alloc, had.get())?, refused(1, 9, RuleCode::R5));
     Ok(())
 }

@@ -1,4 +1,3 @@
-pub mod Scopes
 pub mod Params
 pub mod Plain
 pub mod Known

@@ -1,10 +1,9 @@
--- What a parameter stands for.
-use Rattle.std.specs.Prelude.{Bool, true, false}
-use Rattle.tht_tree.specs.declared.plain.Sort.{Sort}
-use Rattle.tht_tree.specs.declared.walk.Class.{Class}
-use Rattle.tht_tree.specs.declared.walk.Class.TheVariants.{Program, Logic}
+-- The parameters that a case behind `on` does not replace.
+use Rattle.std.specs.Prelude.{ℕ, Bool, true, false, List}
+use Rattle.tht_tree.specs.declared.decl.Param.{Param}
+use Rattle.tht_tree.specs.Walk.Names.{other_params}
 
--- a variable of the program, or of the logic
-abbrev pub variable_of : Bool → Sort → Class
-variable_of true = Program
-variable_of false = Logic
+-- of the parameters that are left, those that are not replaced, once the one with this name has been met or not
+abbrev pub others_left : Bool → List ℕ → List Param → List Param
+others_left true x ps = ps
+others_left false x ps = other_params x ps

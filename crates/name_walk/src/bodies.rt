@@ -3,17 +3,17 @@ ghost use Rattle.std.specs.Prelude.{◌≡◌, OnOk, IfOk, map};
 ghost use Rattle.tht_tree.specs.Walk.Codes.{construct, ◌▸◌};
 ghost use Rattle.tht_tree.specs.Walk.Names.{with_hypothesis, with_parts, new_parts as new_parts_code};
 ghost use Rattle.tht_tree.specs.Walk.Bodies.{InBody, frame as the_frame, statements, body as the_body, stmt as the_stmt, end as the_end};
-ghost use Rattle.name_walk.specs.Scopes.{scope_of, unbound};
+ghost use Rattle.term_walk.specs.Scopes.{scope_of, unbound};
 
-use crate::codes::{Walked, first, refuse};
-use crate::placing::{new_parts, not_in_lemma, only_outside, private_box, returned};
-use crate::proofs::walk_proof;
-use crate::scope::{Scope, Shadow};
-use crate::steps::with_give;
-use crate::stmts::{atomic, bind_after, do_block, results, walk_plain};
-use crate::terms::{formula, new_name, program_of, term_of};
+use crate::placing::{new_parts, not_in_lemma, returned};
+use crate::stmts::{atomic, bind_after, do_block, outcome_of, parallel, walk_plain};
 use sqlite_items::Items;
 use std::alloc::{AllocError, Global};
+use term_walk::codes::{Walked, first, refuse};
+use term_walk::proofs::walk_proof;
+use term_walk::scope::{Scope, Shadow};
+use term_walk::steps::with_give;
+use term_walk::terms::{formula, new_name, program_of, term_of};
 use tht_tree::body::{Body, End, EndKind, Stmt, StmtKind};
 use tht_tree::plain::{Name, Sort, Spot};
 use tht_tree::walk::{Class, Frame, WalkCode, Where};
@@ -77,29 +77,21 @@ fn walk_stmt(alloc: Global, stmt: &Stmt, frame: Frame, scope: &mut Scope) -> Wal
     let (spot, place) = (stmt.spot, frame.place);
     match &stmt.kind {
         StmtKind::Do(x, sort, _, body, a) => {
-            let own = do_block(scope, x, *sort, a, place)?;
+            let own = do_block(scope, &outcome_of(x, *sort, a), place)?;
             one_body(alloc, body.get(), own, in_place(place, *sort), spot, scope)
         }
         StmtKind::Atomic(x, sort, _, body, a) => {
-            let own = atomic(scope, x, *sort, a, place)?;
-            one_body(
-                alloc,
-                body.get(),
-                own,
-                in_place(Where::Inside, *sort),
-                spot,
-                scope,
-            )
+            let own = atomic(scope, &outcome_of(x, *sort, a), place)?;
+            let inside = in_place(Where::Inside, *sort);
+            one_body(alloc, body.get(), own, inside, spot, scope)
         }
         StmtKind::Par(x, s, y, r, _, body, a, _, other, c) => {
-            let names = results(scope, x, *s, y, *r);
-            let left = private_box(scope, x, *s, a)?;
-            let right = private_box(scope, y, *r, c)?;
-            if let Some(code) = first(names, first(left, first(right, only_outside(place)))) {
+            let (left, right) = (outcome_of(x, *s, a), outcome_of(y, *r, c));
+            if let Some(code) = parallel(scope, &left, &right, place)? {
                 return refuse(spot, code);
             }
-            let (first, second) = (in_place(place, *s), in_place(place, *r));
-            two_bodies(alloc, body.get(), other.get(), first, second, scope)
+            let (one, two) = (in_place(place, *s), in_place(place, *r));
+            two_bodies(alloc, body.get(), other.get(), one, two, scope)
         }
         StmtKind::Read(..) => walk_plain(stmt, frame, scope),
         StmtKind::Write(..) => walk_plain(stmt, frame, scope),

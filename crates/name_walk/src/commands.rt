@@ -4,19 +4,19 @@ ghost use Rattle.tht_tree.specs.declared.walk.Where.TheVariants.{Inside, Outside
 ghost use Rattle.tht_tree.specs.Walk.Codes.{construct};
 ghost use Rattle.tht_tree.specs.Walk.Bodies.{frame, body as the_body};
 ghost use Rattle.tht_tree.specs.Walk.Decls.{signature as the_signature, with_txn, with_proc, in_command, head_code, txn_code, proc_code};
-ghost use Rattle.name_walk.specs.Scopes.{scope_of, unbound};
+ghost use Rattle.term_walk.specs.Scopes.{scope_of, unbound};
 
-use crate::assns::walk_assn;
 use crate::bodies::walk_body;
-use crate::codes::{Walked, first, refuse};
 use crate::heads::Coded;
-use crate::kinds::private_only;
-use crate::params::{all_storable, bind_params, sorts_of};
 use crate::placing::{new_result, private_box, result_box};
-use crate::scope::{Scope, Shadow};
-use crate::terms::new_name;
 use sqlite_items::Items;
 use std::alloc::{AllocError, Global};
+use term_walk::assns::walk_assn;
+use term_walk::codes::{Walked, first, refuse};
+use term_walk::kinds::private_only;
+use term_walk::params::{all_storable, bind_params, sorts_of};
+use term_walk::scope::{Scope, Shadow};
+use term_walk::terms::new_name;
 use tht_tree::body::Body;
 use tht_tree::decl::Head;
 use tht_tree::plain::Spot;

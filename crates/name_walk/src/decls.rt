@@ -1,29 +1,27 @@
 // The names and sorts of declarations, and what is known after each.
 ghost use Rattle.std.specs.Prelude.{◌≡◌, OnOk, IfOk, true, option_copied};
 ghost use Rattle.tht_tree.specs.declared.walk.Class.TheVariants as n;
-ghost use Rattle.tht_tree.specs.declared.walk.Naming.TheVariants.{Anywhere, Nowhere, Only};
-ghost use Rattle.tht_tree.specs.Walk.Names.{with_name, with_parts, new_parts as new_parts_code, param_sorts, param_number as the_param_number};
-ghost use Rattle.tht_tree.specs.Walk.Decls.{initial as initial_code, root_value as root_value_code, root_code, invariant_code, definition as definition_code};
-ghost use Rattle.tht_tree.specs.Walk.Decls.{with_predicate, with_lemma, with_txn, with_proc, in_case, pred_code, pred_on_code, decl_kind, after_decl};
-ghost use Rattle.name_walk.specs.Scopes.{scope_of};
+ghost use Rattle.tht_tree.specs.declared.walk.Naming.TheVariants.{Anywhere};
+ghost use Rattle.tht_tree.specs.Walk.Names.{with_name};
+ghost use Rattle.tht_tree.specs.Walk.Decls.{initial as initial_code, root_value as root_value_code, root_code, invariant_code};
+ghost use Rattle.tht_tree.specs.Walk.Decls.{with_predicate, with_lemma, with_txn, with_proc, decl_kind, after_decl};
+ghost use Rattle.term_walk.specs.Scopes.{scope_of};
 ghost use Rattle.name_walk.specs.Known.{before_of};
 
-use crate::assns::walk_assn;
-use crate::codes::{Walked, at, first, unless};
 use crate::commands::{proc_class, txn_class, walk_proc, walk_txn};
-use crate::findings::clash;
-use crate::heads::{Coded, bind_parts, enter, enter_case, new_variables, on_variable, only};
-use crate::kinds::{of_access, shared_only};
+use crate::heads::Coded;
 use crate::lemmas::{lemma_class, walk_lemma};
-use crate::params::sorts_of;
-use crate::placing::new_parts;
-use crate::scope::Scope;
-use crate::steps::with_give;
-use crate::terms::new_name;
-use sqlite_items::Items;
+use crate::predicates::{Pred, by_cases, cases_of, plain, pred_of, predicate_class};
 use std::alloc::{AllocError, Global};
+use term_walk::assns::walk_assn;
+use term_walk::codes::{Walked, at, first, unless};
+use term_walk::findings::clash;
+use term_walk::kinds::shared_only;
+use term_walk::scope::Scope;
+use term_walk::steps::with_give;
+use term_walk::terms::new_name;
 use tht_tree::assn::Assn;
-use tht_tree::decl::{Access, Decl, DeclKind, Head, Initial, Lemma, Param};
+use tht_tree::decl::{Decl, DeclKind, Head, Initial, Lemma};
 use tht_tree::plain::{Name, Sort};
 use tht_tree::walk::{Class, Naming, WalkCode};
 
@@ -56,13 +54,13 @@ pub(crate) fn walk_decl(
             with_give(g, own, spot, scope)
         }
         DeclKind::Pred(access, p, params, a) => {
-            let own = pred(alloc, *access, p, params.as_slice(), a, scope)?;
-            Ok(at(spot, own))
+            let pred = pred_of(*access, p, params.as_slice());
+            Ok(at(spot, plain(alloc, &pred, a, scope)?))
         }
-        DeclKind::PredOn(access, p, params, on, a, head, tail, b) => {
-            let params = params.as_slice();
-            let own = pred_on(alloc, *access, p, params, on, a, head, tail, b, scope)?;
-            Ok(at(spot, own))
+        DeclKind::PredOn(access, p, params, on, nil, head, tail, cons) => {
+            let pred = pred_of(*access, p, params.as_slice());
+            let cases = cases_of(on, nil, head, tail, cons);
+            Ok(at(spot, by_cases(alloc, &pred, &cases, scope)?))
         }
         DeclKind::Lemma(lemma) => walk_lemma(alloc, lemma.get(), scope),
         DeclKind::Txn(head, body) => walk_txn(alloc, head.get(), body.get(), spot, scope),
@@ -85,10 +83,12 @@ pub(crate) fn declare(
         DeclKind::Root(x, _, _) => bind_before(x, Class::Root, seen, scope),
         DeclKind::Invariant(_, _) => Ok(behind_invariant(seen)),
         DeclKind::Pred(access, p, params, _) => {
-            declare_pred(alloc, *access, p, params.as_slice(), seen, scope)
+            let pred = pred_of(*access, p, params.as_slice());
+            declare_pred(alloc, &pred, seen, scope)
         }
         DeclKind::PredOn(access, p, params, _, _, _, _, _) => {
-            declare_pred(alloc, *access, p, params.as_slice(), seen, scope)
+            let pred = pred_of(*access, p, params.as_slice());
+            declare_pred(alloc, &pred, seen, scope)
         }
         DeclKind::Lemma(lemma) => declare_lemma(alloc, lemma.get(), seen, scope),
         DeclKind::Txn(head, _) => declare_txn(alloc, head.get(), seen, scope),
@@ -124,16 +124,14 @@ fn behind_command(seen: Seen) -> Seen
 
 fn declare_pred(
     alloc: Global,
-    access: Access,
-    name: &Name,
-    params: &[Param],
+    pred: &Pred<'_>,
     seen: Seen,
     scope: &mut Scope,
 ) -> Result<Seen, AllocError>
-    ensures { IfOk result (λ s. before_of s (scope_of scope.new) ≡ before_of seen (with_predicate (scope_of scope.old) access name.now params.now Anywhere)) }
+    ensures { IfOk result (λ s. before_of s (scope_of scope.new) ≡ before_of seen (with_predicate (scope_of scope.old) pred.now.access pred.now.name.now pred.now.params.now Anywhere)) }
 {
-    let class = predicate_class(alloc, access, params, Naming::Anywhere)?;
-    bind_before(name, class, seen, scope)
+    let class = predicate_class(alloc, pred, Naming::Anywhere)?;
+    bind_before(pred.name, class, seen, scope)
 }
 
 fn declare_lemma(
@@ -234,124 +232,4 @@ fn invariant(assn: &Assn, seen: Seen, scope: &mut Scope) -> Coded
     let code = walk_assn(assn, scope)?;
     let order = unless(!(seen.invariant || seen.commands), WalkCode::N5);
     Ok(first(code, first(shared_only(scope, assn), order)))
-}
-
-// ---- predicates
-
-// A predicate with these parameters, which may be named so.
-fn predicate_class(
-    alloc: Global,
-    access: Access,
-    params: &[Param],
-    naming: Naming,
-) -> Result<Class, AllocError>
-    ensures { IfOk result (λ c. c ≡ Class.Predicate access (param_sorts params.now) naming) }
-{
-    let sorts = sorts_of(alloc, params)?;
-    Ok(Class::Predicate(access, sorts, naming))
-}
-
-// A predicate, which does not name itself.
-fn pred(
-    alloc: Global,
-    access: Access,
-    name: &Name,
-    params: &[Param],
-    assn: &Assn,
-    scope: &mut Scope,
-) -> Coded
-    ensures ok { IfOk result (λ c. c ≡ pred_code access name.now params.now assn.now (scope_of scope.old)) }
-    ensures same { OnOk result (scope_of scope.new ≡ scope_of scope.old) }
-{
-    let mut bound = Items::new(alloc);
-    let own = new_name(scope, name);
-    let class = predicate_class(alloc, access, params, Naming::Nowhere)?;
-    let variables = enter(name, class, params, scope, &mut bound)?;
-    let definition = definition(access, assn, scope)?;
-    scope.unbind_all(bound)?;
-    Ok(first(own, first(variables, definition)))
-}
-
-// A definition, or one case of it.
-fn definition(access: Access, assn: &Assn, scope: &mut Scope) -> Coded
-    ensures ok { IfOk result (λ c. c ≡ definition_code access (scope_of scope.old) assn.now) }
-    ensures same { OnOk result (scope_of scope.new ≡ scope_of scope.old) }
-{
-    let code = walk_assn(assn, scope)?;
-    Ok(first(code, of_access(access, scope, assn)))
-}
-
-// A predicate with `on`, which names itself in its second case, with exactly the tail as that argument.
-fn pred_on(
-    alloc: Global,
-    access: Access,
-    name: &Name,
-    params: &[Param],
-    on: &Name,
-    nil: &Assn,
-    head: &Name,
-    tail: &Name,
-    cons: &Assn,
-    scope: &mut Scope,
-) -> Coded
-    ensures ok { IfOk result (λ c. c ≡ pred_on_code access name.now params.now on.now nil.now head.now tail.now cons.now (scope_of scope.old)) }
-    ensures same { OnOk result (scope_of scope.new ≡ scope_of scope.old) }
-{
-    let own = new_name(scope, name);
-    let class = predicate_class(alloc, access, params, Naming::Nowhere)?;
-    let variables = new_variables(alloc, name, class, params, scope)?;
-    let class = predicate_class(alloc, access, params, Naming::Nowhere)?;
-    let on_code = on_variable(alloc, name, class, params, on, Sort::Seq, scope)?;
-    let nil = nil_case(alloc, access, name, params, on, nil, scope)?;
-    let (parts, cons) = cons_case(alloc, access, name, params, on, head, tail, cons, scope)?;
-    let names = first(own, first(variables, first(on_code, parts)));
-    Ok(first(names, first(nil, cons)))
-}
-
-fn nil_case(
-    alloc: Global,
-    access: Access,
-    name: &Name,
-    params: &[Param],
-    on: &Name,
-    assn: &Assn,
-    scope: &mut Scope,
-) -> Coded
-    ensures ok { IfOk result (λ c. c ≡ definition_code access (in_case (with_predicate (scope_of scope.old) access name.now params.now Nowhere) on.now params.now) assn.now) }
-    ensures same { OnOk result (scope_of scope.new ≡ scope_of scope.old) }
-{
-    let mut bound = Items::new(alloc);
-    let class = predicate_class(alloc, access, params, Naming::Nowhere)?;
-    enter_case(name, class, on, params, scope, &mut bound)?;
-    let code = definition(access, assn, scope)?;
-    scope.unbind_all(bound)?;
-    Ok(code)
-}
-
-/// What is refused in the names of a head and a tail, and in the case behind them.
-type CaseCodes = (Option<WalkCode>, Option<WalkCode>);
-
-fn cons_case(
-    alloc: Global,
-    access: Access,
-    name: &Name,
-    params: &[Param],
-    on: &Name,
-    head: &Name,
-    tail: &Name,
-    assn: &Assn,
-    scope: &mut Scope,
-) -> Result<CaseCodes, AllocError>
-    ensures ok { let cons = in_case (with_predicate (scope_of scope.old) access name.now params.now (Only (the_param_number on.now params.now) tail.now)) on.now params.now in
-        IfOk result (λ c. (c.0 ≡ new_parts_code cons head.now tail.now) × (c.1 ≡ definition_code access (with_parts cons head.now tail.now) assn.now)) }
-    ensures same { OnOk result (scope_of scope.new ≡ scope_of scope.old) }
-{
-    let mut bound = Items::new(alloc);
-    let class = predicate_class(alloc, access, params, only(on, params, tail)?)?;
-    enter_case(name, class, on, params, scope, &mut bound)?;
-    let names = new_parts(scope, head, tail);
-    bind_parts(head, tail, scope, &mut bound)?;
-    let code = definition(access, assn, scope)?;
-    scope.unbind_all(bound)?;
-    Ok((names, code))
 }

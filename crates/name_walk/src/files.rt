@@ -4,18 +4,18 @@ ghost use Rattle.tht_tree.specs.Walk.Files.{has_invariant as invariant_test, is_
 ghost use Rattle.tht_tree.specs.Walk.Bodies.{frame, new_result as new_result_code, private_box as private_box_code};
 ghost use Rattle.tht_tree.specs.Walk.Codes.{first as first_code};
 ghost use Rattle.tht_tree.specs.declared.walk.Where.TheVariants.{Outside};
-ghost use Rattle.name_walk.specs.Scopes.{scope_of};
+ghost use Rattle.term_walk.specs.Scopes.{scope_of};
 ghost use Rattle.name_walk.specs.declared.decls.Seen.{Seen as SeenOf};
 ghost use Rattle.name_walk.specs.Known.{before_of};
 ghost use Rattle.name_walk.specs.Ends.{IsFirst};
 
 use crate::bodies::walk_body;
-use crate::codes::{Walked, first, refuse};
 use crate::decls::{Seen, declare, walk_decl};
 use crate::heads::Coded;
 use crate::placing::{new_result, private_box};
-use crate::scope::Scope;
 use std::alloc::Global;
+use term_walk::codes::{Walked, first, refuse};
+use term_walk::scope::Scope;
 use tht_tree::decl::{Decl, DeclKind};
 use tht_tree::file::{Main, Source1};
 use tht_tree::walk::{Frame, WalkRefusal, Where};

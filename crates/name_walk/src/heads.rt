@@ -1,14 +1,16 @@
 // The declaration of a predicate or a lemma with its parameters, and the parameter behind `on`.
-ghost use Rattle.std.specs.Prelude.{◌≡◌, OnOk, IfOk, [], ◌∷◌, option_copied};
+ghost use Rattle.std.specs.Prelude.{◌≡◌, OnOk, IfOk, List, ◌∷◌, option_copied};
 ghost use Rattle.tht_tree.specs.Walk.Names.{with_name, with_parts, other_params, param_number as number_of};
 ghost use Rattle.tht_tree.specs.Walk.Decls.{with_logic, new_logic, in_case, on_parameter as on_parameter_code};
-ghost use Rattle.name_walk.specs.Scopes.{scope_of, unbound};
+ghost use Rattle.tht_tree.specs.declared.decl.Param.{Param as TheParam};
+ghost use Rattle.term_walk.specs.Scopes.{scope_of, unbound};
+ghost use Rattle.name_walk.specs.Params.{others_left};
 
-use crate::findings::clash;
-use crate::params::{bind_params, param_number};
-use crate::scope::{Scope, Shadow};
 use sqlite_items::Items;
 use std::alloc::{AllocError, Global};
+use term_walk::findings::clash;
+use term_walk::params::{bind_params, param_number};
+use term_walk::scope::{Scope, Shadow};
 use tht_tree::decl::Param;
 use tht_tree::plain::{Name, Sort};
 use tht_tree::walk::{Class, Naming, WalkCode};
@@ -50,7 +52,7 @@ pub(crate) fn enter_case(
     bind_others(on, params, scope, bound)
 }
 
-// Brings the parameters into scope that have not this name.
+// Brings the parameters into scope but for the one with this name.
 fn bind_others(
     name: &Name,
     params: &[Param],
@@ -60,27 +62,33 @@ fn bind_others(
     ensures known { OnOk result (scope_of scope.new ≡ with_logic (scope_of scope.old) (other_params name.now params.now)) }
     ensures outer { OnOk result (unbound (scope_of scope.new) bound.new ≡ unbound (scope_of scope.old) bound.old) }
 {
+    let mut replaced = false;
     for param in params {
-        bind_other(name, param, scope, bound)?;
+        replaced = bind_other(name, replaced, param, scope, bound)?;
     }
     Ok(())
 }
 
-// Brings a parameter into scope if it has not this name.
+// Brings a parameter into scope, but for the first with this name. The result is whether that one has been met.
 fn bind_other(
     name: &Name,
+    replaced: bool,
     param: &Param,
     scope: &mut Scope,
     bound: &mut Items<Shadow>,
-) -> Result<(), AllocError>
-    ensures known { OnOk result (scope_of scope.new ≡ with_logic (scope_of scope.old) (other_params name.now (param.now ∷ []))) }
+) -> Result<bool, AllocError>
+    ensures known { IfOk result (λ met. (rest : List TheParam) → with_logic (scope_of scope.new) (others_left met name.now rest) ≡ with_logic (scope_of scope.old) (others_left replaced name.now (param.now ∷ rest))) }
     ensures outer { OnOk result (unbound (scope_of scope.new) bound.new ≡ unbound (scope_of scope.old) bound.old) }
 {
-    if name.as_str() == param.name.as_str() {
-        Ok(())
-    } else {
-        scope.bind_in(&param.name, Class::Logic(param.sort), bound)
+    if replaced {
+        scope.bind_in(&param.name, Class::Logic(param.sort), bound)?;
+        return Ok(true);
     }
+    if name.as_str() == param.name.as_str() {
+        return Ok(true);
+    }
+    scope.bind_in(&param.name, Class::Logic(param.sort), bound)?;
+    Ok(false)
 }
 
 /// What is refused in the names of the parameters of a predicate or a lemma.

@@ -1,27 +1,25 @@
 // What the statements and ends of bodies are refused for themselves: their names, terms, boxes, and where they stand.
-ghost use Rattle.std.specs.Prelude.{◌≡◌, OnOk, IfOk, List, ℕ, option_copied};
+ghost use Rattle.std.specs.Prelude.{◌≡◌, OnOk, IfOk, option_copied};
 ghost use Rattle.tht_tree.specs.declared.walk.Class.{Class as TheClass};
-ghost use Rattle.tht_tree.specs.declared.plain.Sort.TheVariants.{Nat};
-ghost use Rattle.tht_tree.specs.Walk.Codes.{first as first_code, unless as unless_code};
+ghost use Rattle.tht_tree.specs.Walk.Codes.{unless as unless_code};
 ghost use Rattle.tht_tree.specs.SameTree.{is_unit};
 ghost use Rattle.tht_tree.specs.declared.term.Term.{out-Term};
 ghost use Rattle.tht_tree.specs.declared.walk.WalkCode.TheVariants.{S4};
-ghost use Rattle.tht_tree.specs.Walk.Names.{with_name, with_result, new_name as new_name_code, new_parts as new_parts_code};
-ghost use Rattle.tht_tree.specs.Walk.Assns.{assn as assn_code};
+ghost use Rattle.tht_tree.specs.Walk.Names.{with_name, new_name as new_name_code, new_parts as new_parts_code};
 ghost use Rattle.tht_tree.specs.Walk.Bodies.{not_in_lemma as not_in_lemma_code, only_inside as only_inside_code, only_outside as only_outside_code};
 ghost use Rattle.tht_tree.specs.Walk.Bodies.{place_term as place_code, new_result as new_result_code, result_box as result_box_code};
 ghost use Rattle.tht_tree.specs.Walk.Bodies.{private_box as private_box_code, do_box as do_box_code, call_arguments as call_arguments_code};
-ghost use Rattle.tht_tree.specs.Walk.Bodies.{as_command as as_command_code, command as command_code, call_sort as the_call_sort, returned as returned_code};
-ghost use Rattle.name_walk.specs.Scopes.{scope_of};
+ghost use Rattle.tht_tree.specs.Walk.Bodies.{command as command_code, call_sort as the_call_sort, returned as returned_code};
+ghost use Rattle.term_walk.specs.Scopes.{scope_of};
 
-use crate::assns::walk_assn;
-use crate::codes::{first, unless};
-use crate::kinds::private_only;
-use crate::scope::Scope;
-use crate::terms::{
+use std::alloc::AllocError;
+use term_walk::assns::walk_assn;
+use term_walk::codes::{first, unless};
+use term_walk::kinds::private_only;
+use term_walk::scope::Scope;
+use term_walk::terms::{
     any_program, any_programs, any_terms, arguments, new_name, program_of, storable,
 };
-use std::alloc::AllocError;
 use tht_tree::assn::Assn;
 use tht_tree::plain::{Name, Sort};
 use tht_tree::term::Term;

@@ -3,21 +3,22 @@ ghost use Rattle.std.specs.Prelude.{◌≡◌, OnOk, IfOk, IsTrue};
 ghost use Rattle.tht_tree.specs.Walk.Codes.{first as first_code};
 ghost use Rattle.tht_tree.specs.Walk.Names.{with_result, new_name as new_name_code};
 ghost use Rattle.tht_tree.specs.Walk.Terms.{any_program as any_program_code, any_programs as any_programs_code};
-ghost use Rattle.tht_tree.specs.Walk.Bodies.{not_in_lemma as not_in_lemma_code, only_outside as only_outside_code, place_term as place_code};
+ghost use Rattle.tht_tree.specs.Walk.Bodies.{not_in_lemma as not_in_lemma_code, only_inside as only_inside_code, only_outside as only_outside_code, place_term as place_code};
 ghost use Rattle.tht_tree.specs.Walk.Bodies.{new_result as new_result_code, private_box as private_box_code, do_box as do_box_code, stmt as the_stmt};
-ghost use Rattle.name_walk.specs.Scopes.{scope_of, unbound};
+ghost use Rattle.term_walk.specs.Scopes.{scope_of, unbound};
 ghost use Rattle.name_walk.specs.Plain.{is_plain};
 
-use crate::codes::{Walked, at, first};
+use crate::heads::Coded;
 use crate::placing::{
     call_sort, command, do_box, new_behind, new_result, not_in_lemma, only_inside, only_outside,
     place_term, private_box,
 };
-use crate::scope::{Scope, Shadow};
-use crate::steps::{bind_after_step, walk_step, with_give, with_proof};
-use crate::terms::{any_program, any_programs, new_name, storable};
 use sqlite_items::Items;
 use std::alloc::AllocError;
+use term_walk::codes::{Walked, at, first};
+use term_walk::scope::{Scope, Shadow};
+use term_walk::steps::{bind_after_step, walk_step, with_give, with_proof};
+use term_walk::terms::{any_program, any_programs, new_name, storable};
 use tht_tree::assn::Assn;
 use tht_tree::body::{Stmt, StmtKind};
 use tht_tree::plain::{Name, Sort};
@@ -62,52 +63,86 @@ pub(crate) fn allocate(scope: &Scope, x: &Name, terms: &[Term], place: Where) ->
     )
 }
 
+/// The place of a `free`, and where it stands.
+fn free(scope: &Scope, term: &Term, place: Where) -> Option<WalkCode>
+    ensures { result ≡ first_code (place_code (scope_of scope.now) term.now) (not_in_lemma_code place) }
+{
+    first(place_term(scope, term), not_in_lemma(place))
+}
+
+/// The place of a `publish` or a `retract`, which stand inside.
+fn handed(scope: &Scope, term: &Term, place: Where) -> Option<WalkCode>
+    ensures { result ≡ first_code (place_code (scope_of scope.now) term.now) (only_inside_code place) }
+{
+    first(place_term(scope, term), only_inside(place))
+}
+
+/// What a `do`, an `atomic` or a branch of a `par` leaves: the name of its result, its sort, and its box.
+#[derive(Clone, Copy)]
+pub(crate) struct Outcome<'a> {
+    pub name: &'a Name,
+    pub sort: Sort,
+    pub post: &'a Assn,
+}
+
+pub(crate) fn outcome_of<'a>(name: &'a Name, sort: Sort, post: &'a Assn) -> Outcome<'a>
+    ensures { result ≡ record { name = name.entry; sort = sort; post = post.entry } }
+{
+    Outcome { name, sort, post }
+}
+
 /// The result and the box of a `do`, and where it stands.
-pub(crate) fn do_block(
-    scope: &mut Scope,
-    x: &Name,
-    sort: Sort,
-    assn: &Assn,
-    place: Where,
-) -> Result<Option<WalkCode>, AllocError>
-    ensures ok { IfOk result (λ c. c ≡ first_code (new_result_code (scope_of scope.old) x.now sort) (first_code (do_box_code place (scope_of scope.old) x.now sort assn.now) (not_in_lemma_code place))) }
+pub(crate) fn do_block(scope: &mut Scope, left: &Outcome<'_>, place: Where) -> Coded
+    ensures ok { IfOk result (λ c. c ≡ first_code (new_result_code (scope_of scope.old) left.now.name.now left.now.sort)
+        (first_code (do_box_code place (scope_of scope.old) left.now.name.now left.now.sort left.now.post.now) (not_in_lemma_code place))) }
     ensures same { OnOk result (scope_of scope.new ≡ scope_of scope.old) }
 {
-    let name = new_result(scope, x, sort);
-    let code = do_box(place, scope, x, sort, assn)?;
+    let name = new_result(scope, left.name, left.sort);
+    let code = do_box(place, scope, left.name, left.sort, left.post)?;
     Ok(first(name, first(code, not_in_lemma(place))))
 }
 
-/// The result and the box of an atomic block, and where it stands.
-pub(crate) fn atomic(
-    scope: &mut Scope,
-    x: &Name,
-    sort: Sort,
-    assn: &Assn,
-    place: Where,
-) -> Result<Option<WalkCode>, AllocError>
-    ensures ok { IfOk result (λ c. c ≡ first_code (new_result_code (scope_of scope.old) x.now sort) (first_code (private_box_code (scope_of scope.old) x.now sort assn.now) (only_outside_code place))) }
+/// The result and the box of an `atomic`, and where it stands.
+pub(crate) fn atomic(scope: &mut Scope, left: &Outcome<'_>, place: Where) -> Coded
+    ensures ok { IfOk result (λ c. c ≡ first_code (new_result_code (scope_of scope.old) left.now.name.now left.now.sort)
+        (first_code (private_box_code (scope_of scope.old) left.now.name.now left.now.sort left.now.post.now) (only_outside_code place))) }
     ensures same { OnOk result (scope_of scope.new ≡ scope_of scope.old) }
 {
-    let name = new_result(scope, x, sort);
-    let code = private_box(scope, x, sort, assn)?;
+    let name = new_result(scope, left.name, left.sort);
+    let code = private_box(scope, left.name, left.sort, left.post)?;
     Ok(first(name, first(code, only_outside(place))))
 }
 
-/// The results of a `par`.
-pub(crate) fn results(
-    scope: &Scope,
-    x: &Name,
-    sort: Sort,
-    y: &Name,
-    other: Sort,
-) -> Option<WalkCode>
-    ensures { result ≡ first_code (new_result_code (scope_of scope.now) x.now sort) (new_result_code (with_result (scope_of scope.now) x.now sort) y.now other) }
+/// The results and the boxes of a `par`, and where it stands.
+pub(crate) fn parallel(
+    scope: &mut Scope,
+    left: &Outcome<'_>,
+    right: &Outcome<'_>,
+    place: Where,
+) -> Coded
+    ensures ok { IfOk result (λ c. c ≡ first_code (first_code (new_result_code (scope_of scope.old) left.now.name.now left.now.sort)
+        (new_result_code (with_result (scope_of scope.old) left.now.name.now left.now.sort) right.now.name.now right.now.sort))
+        (first_code (private_box_code (scope_of scope.old) left.now.name.now left.now.sort left.now.post.now)
+        (first_code (private_box_code (scope_of scope.old) right.now.name.now right.now.sort right.now.post.now) (only_outside_code place)))) }
+    ensures same { OnOk result (scope_of scope.new ≡ scope_of scope.old) }
 {
-    first(
-        new_result(scope, x, sort),
-        first(new_behind(scope, x, y), storable(other)),
-    )
+    let names = results(scope, left, right);
+    let first_box = private_box(scope, left.name, left.sort, left.post)?;
+    let second_box = private_box(scope, right.name, right.sort, right.post)?;
+    let boxes = first(first_box, first(second_box, only_outside(place)));
+    Ok(first(names, boxes))
+}
+
+// The names and the sorts of the results of a `par`.
+fn results(scope: &Scope, left: &Outcome<'_>, right: &Outcome<'_>) -> Option<WalkCode>
+    ensures { result ≡ first_code (new_result_code (scope_of scope.now) left.now.name.now left.now.sort)
+        (new_result_code (with_result (scope_of scope.now) left.now.name.now left.now.sort) right.now.name.now right.now.sort) }
+{
+    let second = first(
+        new_behind(scope, left.name, right.name),
+        storable(right.sort),
+    );
+    first(new_result(scope, left.name, left.sort), second)
 }
 
 // ---- statements with no body in them
@@ -128,30 +163,9 @@ pub(crate) fn walk_plain(stmt: &Stmt, frame: Frame, scope: &mut Scope) -> Walked
             with_proof(p, write(scope, t.get(), u.get(), place), spot, scope)
         }
         StmtKind::Alloc(x, cells) => Ok(at(spot, allocate(scope, x, cells.as_slice(), place))),
-        StmtKind::Free(t, _, p) => {
-            with_proof(
-                p,
-                first(place_term(scope, t.get()), not_in_lemma(place)),
-                spot,
-                scope,
-            )
-        }
-        StmtKind::Publish(t, _, p) => {
-            with_proof(
-                p,
-                first(place_term(scope, t.get()), only_inside(place)),
-                spot,
-                scope,
-            )
-        }
-        StmtKind::Retract(t, _, p) => {
-            with_proof(
-                p,
-                first(place_term(scope, t.get()), only_inside(place)),
-                spot,
-                scope,
-            )
-        }
+        StmtKind::Free(t, _, p) => with_proof(p, free(scope, t.get(), place), spot, scope),
+        StmtKind::Publish(t, _, p) => with_proof(p, handed(scope, t.get(), place), spot, scope),
+        StmtKind::Retract(t, _, p) => with_proof(p, handed(scope, t.get(), place), spot, scope),
         StmtKind::Call(x, f, ts, us, g) => {
             let called = command(place, scope, f, ts.as_slice(), us.as_slice());
             with_give(g, first(new_name(scope, x), called), spot, scope)

@@ -1,5 +1,5 @@
 -- What an answer says of its input.
-use Rattle.std.proofs.Common.{◌≡◌, ◌⊎◌, inl, inr, ℕ, ◌≤◌, length, codes, Bool, true, false, ◌&&◌, IsTrue, List, [], Option, None, Some, IfSome, Result, Ok, Err, IfOk, sym, ap, subst}
+use Rattle.std.proofs.Common.{◌≡◌, inl, inr, ℕ, ◌≤◌, length, true, IsTrue, List, [], Option, None, Some, IfSome, Result, Ok, Err, IfOk, sym, ap, subst}
 use Rattle.std.specs.List.Sorted.{IsStrictlySortedBy}
 use Rattle.std.proofs.lemmas.List.Elements.{All-nil}
 use Rattle.tht_tree.specs.declared.file.Source1.{Source1}
@@ -21,10 +21,15 @@ use Rattle.tht_grammar.proofs.TextFaults.{no_file_split, no_file_spelled}
 use Rattle.tht_tree.specs.Runs.{start_of, GoesLowest}
 use Rattle.tht_tree.specs.Soundness.{IsSound}
 use Rattle.tht_tree.specs.CommandLine
-use Rattle.tht_tree.specs.CommandLine.{budget, input_limit, Reports, Takes, TakesNone, Accepts, IsFirstFault, SaysFault, SaysLater, RefusesText, FileAnswers, IsRefused, EndsSo}
-use Rattle.tht_tree.specs.Rules.Context.{no_locals, no_context}
+use Rattle.tht_tree.specs.CommandLine.{budget, input_limit, Reports, Takes, TakesNone, Accepts, IsFirstFault, SaysFault, SaysLater, SaysRefusal, RefusesText, RefusesNames, FileAnswers, IsRefused, IsOutOfOrder, EndsSo}
+use Rattle.tht_tree.specs.Rules.Context.{no_context}
 use Rattle.tht_tree.specs.Rules.Formed.{IsFormed}
-use Rattle.tht_tree.specs.Rules.Scoping.{is_well_sorted, body_scoped}
+use Rattle.tht_tree.specs.Built.{is_built}
+use Rattle.tht_tree.specs.Walk.Files.{first_refusal, WellSorted}
+use Rattle.tht_tree.specs.declared.walk.WalkRefusal.{WalkRefusal}
+use Rattle.tht_tree.specs.declared.rule.RuleRefusal.{RuleRefusal}
+use Rattle.tht_tree.specs.Lines.{walk_line, rule_line}
+use Rattle.tht_tree.specs.Rules.Files.{rule_refusal}
 use Rattle.tht_parse.specs.Ends.{IsFirstFault as IsFirst}
 use Rattle.tht_parse.specs.declared.end.ParseEnd.{ParseEnd}
 use Rattle.tht_parse.specs.declared.end.ParseEnd.TheVariants as end
@@ -55,12 +60,18 @@ module _ (input : List ℕ) where
 module _ (one_file : (a b : Source1) (bytes : List ℕ) → IsSpelled a bytes → IsSpelled b bytes → a ≡ b) where
   none_later : (input output : List ℕ) → SaysLater input output → TakesNone input Run
   none_later input output h file source =
-      let same = one_file file h.file input source.spelled h.spelled in let good = source.sorted in let bad = h.later in cc (ap is_well_sorted same)
+      let same = one_file file h.file input source.spelled h.spelled in let good = source.built in let bad = h.later in cc (ap is_built same)
 
   pub none_refused : (reader : Reader) (input output : List ℕ) → RefusesText reader input output → TakesNone input reader
   none_refused Run input output (inl h) = none_at_fault input output h Run
   none_refused Run input output (inr h) = none_later input output h
   none_refused Print input output h = none_at_fault input output h Print
+
+  -- nor is a file taken whose names and sorts are not in order
+  pub none_out_of_order : (reader : Reader) (input output : List ℕ) → RefusesNames reader input output → TakesNone input reader
+  none_out_of_order Run input output h file source =
+      let same = one_file file h.file input source.spelled h.spelled in let good = source.sorted in let bad = h.first in cc (ap first_refusal same)
+  none_out_of_order Print input output h file source = absurd h
 
   pub not_taken : (left : Option (List ℕ)) (reader : Reader) (s : Status) (output : List ℕ) → IfSome left (λ input. FileAnswers reader input s output) → s ≡ status.Text
       → IfSome left (λ input. TakesNone input reader)
@@ -72,13 +83,6 @@ one_command x y e = cc
 
 -- ---- accepted files
 
-and_right : (a b : Bool) → (a && b) ≡ true → b ≡ true
-and_right true b e = e
-and_right false b e = cc
-
-pub main_scoped : (file : Source1) → is_well_sorted file ≡ true → body_scoped [] file.main.sort file.main.body no_locals ≡ true
-main_scoped file e = and_right _ (body_scoped [] file.main.sort file.main.body no_locals) e
-
 pub nothing_formed : IsFormed [] no_context
 unfolding IsStrictlySortedBy
 nothing_formed = record { ascending = tt; numbered = All-nil _; atoms = All-nil _; hyps = All-nil _ }
@@ -89,12 +93,20 @@ no_fault file sound f = f.fault (sound.safe budget f.order f.last f.runs 0 f.lef
 -- ---- causes
 
 refused_at : (reader : Reader) (input : List ℕ) (output : List ℕ) → FileAnswers reader input status.Rule output → IsRefused input
-refused_at Run input output a = (a.0, a.2, a.3.0)
+refused_at Run input output a = (a.0, a.3.0, a.2, a.3.1)
 refused_at Print input output a = absurd a.3
 
 pub refused : (left : Option (List ℕ)) (reader : Reader) (s : Status) (output : List ℕ) → IfSome left (λ input. FileAnswers reader input s output) → s ≡ status.Rule → IfSome left IsRefused
 refused None reader s output a e = tt
 refused (Some input) reader s output a e = refused_at reader input output (subst (λ t. FileAnswers reader input t output) e a)
+
+out_of_order_at : (reader : Reader) (input : List ℕ) (output : List ℕ) → FileAnswers reader input status.NamesOrSorts output → IsOutOfOrder input
+out_of_order_at Run input output a = let h = a.1 in (h.file, h.refusal, h.spelled, h.built, h.first)
+out_of_order_at Print input output a = absurd a.1
+
+pub out_of_order : (left : Option (List ℕ)) (reader : Reader) (s : Status) (output : List ℕ) → IfSome left (λ input. FileAnswers reader input s output) → s ≡ status.NamesOrSorts → IfSome left IsOutOfOrder
+out_of_order None reader s output a e = tt
+out_of_order (Some input) reader s output a e = out_of_order_at reader input output (subst (λ t. FileAnswers reader input t output) e a)
 
 spent_by : (file : Source1) (order : List ℕ) (e : End) → status.Spent ≡ CommandLine.status_of e → GoesLowest (start_of file budget) order e → (b : ℕ) × GoesLowest (start_of file budget) order (ended.Spent b)
 spent_by file order (ended.Done v) same goes = cc
@@ -130,9 +142,10 @@ if_ok (Ok a) P Q R f p q = f a p q
 if_ok (Err e) P Q R f p q = tt
 
 run_answers : (input : List ℕ) (file : Source1) (s : Status) (output : List ℕ) → length input ≤ input_limit → IsSpelled file input → AnswersTo Run file s output → FileAnswers Run input s output
-run_answers input file status.TooLong output small spelled a = let past = a.1 in cc
+run_answers input file status.TooLong output small spelled a = let past = a.2 in cc
 run_answers input file status.Text output small spelled a = (small, inr (record { file = file; spelled = spelled; later = a.0; line = a.1 }))
-run_answers input file s output small spelled a = (file, small, record { spelled = spelled; sorted = a.0 }, a.2)
+run_answers input file status.NamesOrSorts output small spelled a = (small, record { file = file; spelled = spelled; built = a.1; refusal = a.0; first = a.2; line = a.3 })
+run_answers input file s output small spelled a = (file, small, record { spelled = spelled; built = a.0; sorted = a.1 }, a.3)
 
 -- the answer of a command to the file that the input spells is its answer to the input
 pub answers_file : (reader : Reader) (input : List ℕ) (file : Source1) (s : Status) (output : List ℕ) → length input ≤ input_limit → IsSpelled file input → AnswersTo reader file s output
@@ -160,6 +173,20 @@ pub answers_fault : (reader : Reader) (input : List ℕ) (e : ParseEnd) (s : Sta
     → FileAnswers reader input s output
 answers_fault reader input e s output small first same line =
     let P : Status → Type 0 = λ t. FileAnswers reader input t output in subst P (sym same) (small, says_fault reader input output (fault_said input e output first line))
+
+-- the answer of `run` to a file whose names or sorts are not in order, and to one that a rule refuses
+pub walk_answers : (file : Source1) (r : WalkRefusal) (s : Status) (output : List ℕ) → is_built file ≡ true → first_refusal file ≡ Some r → s ≡ status.NamesOrSorts → output ≡ walk_line r
+    → AnswersTo Run file s output
+walk_answers file r s output built first same line = let P : Status → Type 0 = λ t. AnswersTo Run file t output in subst P (sym same) (r, built, first, line)
+
+pub rule_answers : (file : Source1) (r : RuleRefusal) (s : Status) (output : List ℕ) → rule_refusal file ≡ Some r → s ≡ status.Rule → output ≡ rule_line r → Accepts Run file s output
+rule_answers file r s output first same line = let P : Status → Type 0 = λ t. Accepts Run file t output in subst P (sym same) (r, first, line)
+
+-- the answer of `run` to a file whose names and sorts are in order
+pub past_answers : (file : Source1) (s : Status) (output : List ℕ) → is_built file ≡ true → WellSorted file → Accepts Run file s output → IsTrue (is_past_text s) → AnswersTo Run file s output
+past_answers file status.Text output built sorted a past = cc
+past_answers file status.NamesOrSorts output built sorted a past = cc
+past_answers file s output built sorted a past = (built, sorted, past, a)
 
 -- a cause of an answer from what is said of the answer
 pub if_ok_then : {A E : Type 0} (r : Result A E) (P R : A → Type 0) → ((a : A) → P a → R a) → IfOk r P → IfOk r R

@@ -2,7 +2,7 @@
 use Rattle.std.proofs.Common.{◌≡◌, ℕ, suc, ◌+◌, ◌-◌, ◌*◌, ltb, leb, cond, ◌&&◌, ◌||◌, not, Bool, true, false, List, [], ◌∷◌, map, bytes_eq, Option, Some, None, unwrap_or, refl, sym, ◌∙◌, ap, arith, if◌then◌else◌}
 use Rattle.tht_tree.specs.declared.plain.Value.{Value}
 use Rattle.tht_tree.specs.declared.plain.Value.TheVariants as v
-use Rattle.tht_tree.specs.declared.term.Term.{Term, roll-Term, map-Term}
+use Rattle.tht_tree.specs.declared.term.Term.{Term, map-Term}
 use Rattle.tht_tree.specs.declared.term.Term.TheOpen.{Term-F}
 use Rattle.tht_tree.specs.declared.term.Term.TheOpen as f
 use Rattle.tht_tree.specs.Values.{Val, is, value_in, nat_in, bool_in, place_in, unit_value, is_small_val, same_value}

@@ -15,19 +15,32 @@ use Rattle.tht_tree.proofs.TermFolds.{at-Unit}
 use Rattle.tht_tree.specs.Values.{Val, is, unit_value}
 use Rattle.tht_tree.specs.Syntax.{Names, Code, ret, trm, stmt_code, stmts_code, end_code, stmts_of, end_of}
 use Rattle.tht_tree.specs.declared.plain.Place.TheVariants.{Null, Root, Cell}
-use Rattle.tht_tree.specs.Heaps.{nothing}
+use Rattle.tht_tree.specs.Heaps.{nothing as nothing_here}
 use Rattle.tht_front.proofs.Cells.{IsHeapOf}
 use Rattle.tht_tree.specs.Terms.{fits}
 use Rattle.tht_tree.specs.Machine.{Mem, Prog, Ended, FrontBig, Leaf, closed, no_env, value, Said, Next, Cannot, Big, Longer, Moved, step_of}
 use Rattle.tht_tree.specs.Runs.{State, entered, step_in, on_moved, follow, start_of, run_of, IsLowest, EndsLowest, GoesLowest}
 use Rattle.tht_tree.specs.Soundness.{IsSafe}
 use Rattle.tht_tree.specs.declared.plain.Sort.{Sort}
+use Rattle.tht_tree.specs.declared.body.Body.{out-Body}
+use Rattle.tht_tree.specs.declared.plain.Spot.{Spot}
+use Rattle.tht_tree.specs.declared.walk.Frame.{Frame}
+use Rattle.tht_tree.specs.declared.walk.Where.TheVariants.{Outside}
+use Rattle.tht_tree.specs.Built as built
 use Rattle.tht_tree.specs.Rules.Context.{Scope, no_locals}
-use Rattle.tht_tree.specs.Rules.Scoping.{is_of, program_sort, is_built_give, stmt_scope, stmts_scoped, end_scoped, is_well_sorted}
-use Rattle.hoare_rules.proofs.BodySound.{next_scope, body_is_scoped}
-use Rattle.hoare_rules.proofs.Choices.{both_true}
-use Rattle.hoare_rules.proofs.Scopes.{program_free}
-use Rattle.tht_front.specs.Running.{Store, went, too_big, fault, evaluated, evaluated_at, carried}
+use Rattle.tht_tree.specs.Walk.Names as walk
+use Rattle.tht_tree.specs.Walk.Names.{no_names}
+use Rattle.tht_tree.specs.Walk.Bodies as w
+use Rattle.tht_tree.specs.Walk.Bodies.{InBody, statements, frame}
+use Rattle.tht_tree.specs.Walk.Files.{WellSorted}
+use Rattle.walk_laws.proofs.Levels.{stmt_is, end_is}
+use Rattle.hoare_rules.specs.Names.{Tells}
+use Rattle.std.specs.List.{list_all}
+use Rattle.hoare_rules.proofs.MainWalked.{main_walked}
+use Rattle.hoare_rules.proofs.BodySound.{parts_is}
+use Rattle.hoare_rules.proofs.Refused.{nothing, behind_none}
+use Rattle.tht_front.proofs.Walking.{told_after, ret_walked, built_stmts, built_here}
+use Rattle.tht_front.specs.Running.{Store, went, too_big, fault, evaluated, evaluated_at, carried, is_command}
 use Rattle.tht_front.specs.Carrying.{returned, end_said}
 use Rattle.tht_front.specs.Outcomes.{RunEnds, RunFaults}
 use Rattle.tht_front.proofs.Evaluating.{Means}
@@ -77,14 +90,15 @@ end_at : (b : Bool) (w : Value) (o : Option Value) (t : State) → o ≡ (if b t
 end_at true w o t same tree = rw same tree
 end_at false w o t same tree = let f : step_in t 0 ≡ Big = rw tree refl in rw same (lowest t Big f (λ z. cc), f)
 
-finish : (k : EndKind) (r : Sort) (scope : Scope) (xs : Names) (ws : List Value) (st : Store) (t : State) → end_scoped [] r k scope ≡ true → StandsFor st xs ws t.mem
-    → t.tree ≡ Leaf 0 (closed (map is ws) (end_code [] k xs)) → EndsLowest t (end_said (evaluated st.named (returned k)))
-finish (e.Ret u g) r scope xs ws st t scoped stands tree =
-    let vs : List Val = map is ws in
-    let plain = program_free scope u r (both_true (is_built_give g.kind) (is_of r (program_sort [] scope u)) scoped).1 in
-    let h : Means vs (evaluated st.named u) (trm [] xs u) = terms 0 t.mem (λ ys. ret (trm [] ys u)) st xs ws stands u plain in
-    end_at (fits no_env vs (trm [] xs u)) (value vs (trm [] xs u)) (evaluated st.named u) t h.answer tree
-finish _ r scope xs ws st t scoped stands tree = end_at true unit_value (evaluated st.named term.Unit) t (at-Unit (Option Value) (evaluated_at st.named)) tree
+module _ (spot : Spot) (names : walk.Scope) (scope : Scope) (tells : Tells names scope) (r : Sort) where
+  finish : (k : EndKind) (xs : Names) (ws : List Value) (st : Store) (t : State) → w.end_kind k spot (frame Outside r) names ≡ nothing → StandsFor st xs ws t.mem
+      → t.tree ≡ Leaf 0 (closed (map is ws) (end_code [] k xs)) → EndsLowest t (end_said (evaluated st.named (returned k)))
+  finish (e.Ret u g) xs ws st t order stands tree =
+      let vs : List Val = map is ws in
+      let plain = (ret_walked spot (frame Outside r) names scope tells r u g order).plain in
+      let h : Means vs (evaluated st.named u) (trm [] xs u) = terms 0 t.mem (λ ys. ret (trm [] ys u)) st xs ws stands u plain in
+      end_at (fits no_env vs (trm [] xs u)) (value vs (trm [] xs u)) (evaluated st.named u) t h.answer tree
+  finish _ xs ws st t order stands tree = end_at true unit_value (evaluated st.named term.Unit) t (at-Unit (Option Value) (evaluated_at st.named)) tree
 
 drop_all : (i : ℕ) (xs : List Stmt) → length xs ≤ i → drop i xs ≡ []
 drop_all zero [] l = refl
@@ -92,7 +106,7 @@ drop_all (suc i) [] l = refl
 drop_all zero (x ∷ xs) l = absurd (omega arith)
 drop_all (suc i) (x ∷ xs) l = drop_all i xs (omega arith)
 
-no_cells : IsHeapOf [] nothing
+no_cells : IsHeapOf [] nothing_here
 no_cells Null = refl
 no_cells (Root r) = refl
 no_cells (Cell zero i) = refl
@@ -104,8 +118,12 @@ module _ (file : Source1) (budget : ℕ) where
   abbrev last : Names → Code
   last = end_code [] (end_of file.main.body)
 
-  abbrev ends : Scope → Bool
-  ends = end_scoped [] file.main.sort (end_of file.main.body)
+  abbrev place : Frame
+  place = frame Outside file.main.sort
+
+  -- the walk of these statements and of main's end
+  abbrev walk_of : List Stmt → InBody
+  walk_of stmts = statements (map w.stmt stmts) (w.end (out-Body file.main.body).end)
 
   -- after so many steps branch 0 is about to carry out these statements, with what the runner keeps
   pub record About (steps : ℕ) (st : Store) (stmts : List Stmt) : Type 0 where
@@ -116,12 +134,15 @@ module _ (file : Source1) (budget : ℕ) where
     pub left : state.left + steps ≡ budget
     pub tree : state.tree ≡ Leaf 0 (closed (map is ws) (stmts_code [] stmts last xs))
     pub stands : StandsFor st xs ws state.mem
+    pub names : walk.Scope
     pub scope : Scope
-    pub scoped : stmts_scoped [] stmts ends scope ≡ true
+    pub tells : Tells names scope
+    pub order : walk_of stmts place names ≡ nothing
+    pub all_built : list_all (λ y. built.stmt y.kind) stmts ≡ true
 
-  pub begins : is_well_sorted file ≡ true → (st : Store) → st ≡ record { named = λ x. None; cells = [] } → About 0 st (stmts_of file.main.body)
+  pub begins : built.is_built file ≡ true → WellSorted file → (st : Store) → st ≡ record { named = λ x. None; cells = [] } → About 0 st (stmts_of file.main.body)
   unfolding Steps
-  begins sorted st same = let P : Store → Type 0 = λ u. About 0 u (stmts_of file.main.body) in subst P (sym same) (record {
+  begins all_built sorted st same = let P : Store → Type 0 = λ u. About 0 u (stmts_of file.main.body) in subst P (sym same) (record {
     state = start_of file budget;
     xs = [];
     ws = [];
@@ -129,8 +150,11 @@ module _ (file : Source1) (budget : ℕ) where
     left = omega arith;
     tree = refl;
     stands = record { named = λ x. refl; heap = no_cells; made = refl };
+    names = no_names;
     scope = no_locals;
-    scoped = body_is_scoped file sorted;
+    tells = λ x. refl;
+    order = sym (parts_is file.main.body place no_names) ∙ main_walked file all_built sorted;
+    all_built = built_stmts file all_built;
   })
 
   -- the run so far
@@ -152,26 +176,62 @@ module _ (file : Source1) (budget : ℕ) where
     abbrev front : Prog
     front = closed (map is here.ws) (stmt_code [] x.kind here.xs next)
 
-    -- the scope after the statement
-    after : (s : Scope) × (stmt_scope [] x.kind here.scope ≡ Some s) × (stmts_scoped [] ss ends s ≡ true)
-    after = next_scope (stmt_scope [] x.kind here.scope) (stmts_scoped [] ss ends) here.scoped
+    -- the walk of the statement, and of those behind it
+    parts : ((w.stmt x).walk place here.names ≡ nothing) × (walk_of ss place ((w.stmt x).after here.names) ≡ nothing)
+    parts = behind_none ((w.stmt x).walk place here.names) (walk_of ss place ((w.stmt x).after here.names)) here.order
+
+    walked : (w.stmt_kind x.kind x.spot).walk place here.names ≡ nothing
+    walked = sym (ap (λ z. z.walk place here.names) (stmt_is x.spot x.kind)) ∙ parts.0
+
+    abbrev names_after : walk.Scope
+    names_after = (w.stmt_kind x.kind x.spot).after here.names
+
+    behind : walk_of ss place names_after ≡ nothing
+    behind = sym (ap (λ z. walk_of ss place (z.after here.names)) (stmt_is x.spot x.kind)) ∙ parts.1
+
+    is_built : (built.stmt x.kind ≡ true) × (list_all (λ y. built.stmt y.kind) ss ≡ true)
+    is_built = built_here x ss here.all_built
+
+    told : (d : Scope) × Tells names_after d
+    told = told_after x.spot place here.names here.scope here.tells x.kind is_built.0 walked
 
     -- the step, with so many left
     step_is : (n : ℕ) → n ≡ here.state.left → step_in here.state 0 ≡ step_of [] 0 n here.state.mem (Leaf 0 front)
     step_is n same = rw (same, here.tree) refl
 
     -- what the step says, where one is left at least
-    said : (n : ℕ) → suc n ≡ here.state.left → Follows (carried x.kind st) next (step_in here.state 0)
-    said n same = rw (step_is (suc n) same) (follows n here.state.mem next st here.xs here.ws here.stands x.kind here.scope after.0 after.1)
+    said : is_command x.kind ≡ true → (n : ℕ) → suc n ≡ here.state.left → Follows (carried x.kind st) next (step_in here.state 0)
+    said command n same = rw (step_is (suc n) same) (follows n here.state.mem next st here.xs here.ws here.stands x.spot place here.names here.scope here.tells x.kind command walked)
 
     one_left : steps < budget → (n : ℕ) × (suc n ≡ here.state.left)
     one_left less = (here.state.left - 1, let l = here.left in omega arith)
 
-    pub went_on : (new : Store) → steps < budget → carried x.kind st ≡ went new → About (suc steps) new ss
+    -- a proof step is passed over
+    pub passed_over : is_command x.kind ≡ false → About steps st ss
+    passed_over step = record {
+      state = here.state;
+      xs = here.xs;
+      ws = here.ws;
+      steps_so = here.steps_so;
+      left = here.left;
+      tree = here.tree ∙ ap (λ c. Leaf 0 (closed (map is here.ws) c)) (no_code x.kind step);
+      stands = here.stands;
+      names = names_after;
+      scope = told.0;
+      tells = told.1;
+      order = behind;
+      all_built = is_built.1;
+    }
+      where
+        no_code : (k : StmtKind) → is_command k ≡ false → stmt_code [] k here.xs next ≡ next here.xs
+        no_code (s.Proof y) e = refl
+        no_code _ e = cc
+
+    pub went_on : is_command x.kind ≡ true → (new : Store) → steps < budget → carried x.kind st ≡ went new → About (suc steps) new ss
     unfolding Steps
-    went_on new less what =
+    went_on command new less what =
         let n = one_left less in
-        let f : Follows (went new) next (step_in here.state 0) = subst (λ c. Follows c next (step_in here.state 0)) what (said n.0 n.1) in
+        let f : Follows (went new) next (step_in here.state 0) = subst (λ c. Follows c next (step_in here.state 0)) what (said command n.0 n.1) in
         let l = here.left in
         let c = f.4 in
         let m = n.1 in
@@ -183,39 +243,44 @@ module _ (file : Source1) (budget : ℕ) where
           left = omega arith;
           tree = f.5;
           stands = record { named = f.6.named; heap = f.6.heap; made = f.6.made };
-          scope = after.0;
-          scoped = after.2;
+          names = names_after;
+          scope = told.0;
+          tells = told.1;
+          order = behind;
+          all_built = is_built.1;
         }
 
-    pub too_big_at : steps < budget → carried x.kind st ≡ too_big → RunEnds file budget (BigEnd 0) steps
-    too_big_at less what =
+    pub too_big_at : is_command x.kind ≡ true → steps < budget → carried x.kind st ≡ too_big → RunEnds file budget (BigEnd 0) steps
+    too_big_at command less what =
         let n = one_left less in
-        let f : step_in here.state 0 ≡ Big = subst (λ c. Follows c next (step_in here.state 0)) what (said n.0 n.1) in
+        let f : step_in here.state 0 ≡ Big = subst (λ c. Follows c next (step_in here.state 0)) what (said command n.0 n.1) in
         ended steps here.state (BigEnd 0) here.steps_so here.left (lowest here.state Big f (λ z. cc), f)
 
-    pub fault_at : steps < budget → carried x.kind st ≡ fault → RunFaults file budget
-    fault_at less what =
+    pub fault_at : is_command x.kind ≡ true → steps < budget → carried x.kind st ≡ fault → RunFaults file budget
+    fault_at command less what =
         let n = one_left less in
-        let f : IsSafe (step_in here.state 0) → ⊥ = subst (λ c. Follows c next (step_in here.state 0)) what (said n.0 n.1) in
+        let f : IsSafe (step_in here.state 0) → ⊥ = subst (λ c. Follows c next (step_in here.state 0)) what (said command n.0 n.1) in
         record { order = replicate steps 0; last = here.state; runs = so_far steps here.state here.steps_so; left = here.state.left; fault = f }
 
-    none_left : (k : StmtKind) (vs : List Val) (xs : Names) (m : Mem) → step_of [] 0 0 m (Leaf 0 (closed vs (stmt_code [] k xs next))) ≡ Longer
-    none_left (s.Read y r t i h p) vs xs m = refl
-    none_left (s.Write t u i p) vs xs m = refl
-    none_left (s.Alloc y (t ∷ [])) vs xs m = refl
-    none_left (s.Free t i p) vs xs m = refl
-    none_left _ vs xs m = refl
+    none_left : (k : StmtKind) → is_command k ≡ true → (vs : List Val) (xs : Names) (m : Mem) → step_of [] 0 0 m (Leaf 0 (closed vs (stmt_code [] k xs next))) ≡ Longer
+    none_left (s.Read y r t i h p) c vs xs m = refl
+    none_left (s.Write t u i p) c vs xs m = refl
+    none_left (s.Alloc y (t ∷ [])) c vs xs m = refl
+    none_left (s.Free t i p) c vs xs m = refl
+    none_left (s.Proof y) c vs xs m = cc
+    none_left _ c vs xs m = refl
 
-    pub spent_at : steps ≡ budget → RunEnds file budget (Spent 0) steps
-    spent_at all =
+    pub spent_at : is_command x.kind ≡ true → steps ≡ budget → RunEnds file budget (Spent 0) steps
+    spent_at command all =
         let l = here.left in
         let none : 0 ≡ here.state.left = omega arith in
-        let f : step_in here.state 0 ≡ Longer = step_is 0 none ∙ none_left x.kind (map is here.ws) here.xs here.state.mem in
+        let f : step_in here.state 0 ≡ Longer = step_is 0 none ∙ none_left x.kind command (map is here.ws) here.xs here.state.mem in
         ended steps here.state (Spent 0) here.steps_so here.left (lowest here.state Longer f (λ z. cc), f)
 
   pub finished : (steps : ℕ) (st : Store) → About steps st [] → RunEnds file budget (end_said (evaluated st.named (returned (end_of file.main.body)))) steps
   finished steps st here =
-      ended steps here.state _ here.steps_so here.left (finish (end_of file.main.body) file.main.sort here.scope here.xs here.ws st here.state here.scoped here.stands here.tree)
+      let main_end = (out-Body file.main.body).end in
+      ended steps here.state _ here.steps_so here.left (finish main_end.spot here.names here.scope here.tells file.main.sort main_end.kind here.xs here.ws st here.state (sym (end_is main_end.spot main_end.kind place here.names) ∙ here.order) here.stands here.tree)
 
   -- the statement at hand, and those after it
   pub now_at : (steps : ℕ) (st : Store) (xs ys : List Stmt) (i : ℕ) (x : Stmt) → ys ≡ xs → i < length ys → x ≡ get_or ys i x → About steps st (drop i xs) → About steps st (x ∷ drop (i + 1) xs)

@@ -2,6 +2,7 @@ pub mod Naming
 pub mod Cells
 pub mod Evaluating
 pub mod Stepping
+pub mod Walking
 pub mod Going
 pub mod OrderRuns
 pub mod Answering

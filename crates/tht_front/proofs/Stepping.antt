@@ -15,8 +15,13 @@ use Rattle.tht_tree.specs.Heaps.{own}
 use Rattle.tht_tree.specs.Machine.{Cmd, TermBig, Read, Write, Alloc, Free, Prog, Plain, closed, no_env, value, Mem, retag, Said, Next, Big, Wrong, on_next, at_leaf, Ran, Leaf, Moved, step_of}
 use Rattle.tht_tree.specs.Soundness.{IsSafe}
 use Rattle.tht_tree.specs.Rules.Context.{Scope}
-use Rattle.tht_tree.specs.Rules.Scoping.{sequence_free, is_built_proof, stmt_scope}
-use Rattle.hoare_rules.proofs.FormedAfter.{read_scoped, write_scoped, alloc_scoped, free_scoped}
+use Rattle.tht_tree.specs.Rules.Scoping.{sequence_free}
+use Rattle.tht_tree.specs.declared.plain.Spot.{Spot}
+use Rattle.tht_tree.specs.declared.walk.Frame.{Frame}
+use Rattle.tht_tree.specs.Walk.Names as walk
+use Rattle.hoare_rules.specs.Names.{Tells}
+use Rattle.hoare_rules.proofs.Walked.{Walked, read_walked, write_walked, alloc_walked, free_walked}
+use Rattle.tht_front.specs.Running.{is_command}
 use Rattle.tht_front.specs.Running.{Store, Carried, went, too_big, fault, evaluated, held, with_name, on_value, on_cell, if_sort, with_cell, index_of, carried}
 use Rattle.std.proofs.lemmas.List.{length-set, length_push}
 use Rattle.tht_front.proofs.Cells.{IsHeapOf, heap_set, heap_same, heap_push}
@@ -137,24 +142,26 @@ module _ (n : ℕ) (m : Mem) (next : Names → Code) where
       },
     )
 
-    -- a statement of a program
-    pub follows : (kind : StmtKind) (old new : Scope) → stmt_scope [] kind old ≡ Some new → Follows (carried kind st) next (step_at n m (closed vs (stmt_code [] kind xs next)))
-    follows (s.Read x sort t i h p) old new e =
-        let T = trm [] xs t in
-        let plain = (read_scoped (is_built_proof p.kind) x sort t h old new e).plain in
-        one (fits no_env vs T) (evaluated st.named t) (value vs T) _ (Read sort (place_in (value vs T))) _ (terms t plain).answer
-        (read_at (place_in (value vs T)) x sort _ refl (found_at (place_in (value vs T))))
-    follows (s.Write t u i p) old new e =
-        let T = trm [] xs t in
-        let U = trm [] xs u in
-        let scoped = write_scoped (is_built_proof p.kind) t u old new e in
-        two (fits no_env vs T) (fits no_env vs U) (evaluated st.named t) (evaluated st.named u) (value vs T) (value vs U) _ (Write (place_in (value vs T)) (value vs U)) _
-        (terms t scoped.plain).answer (terms u scoped.plain_value).answer (write_at (place_in (value vs T)) (value vs U) _ refl (found_at (place_in (value vs T))))
-    follows (s.Alloc x (t ∷ [])) old new e =
-        let T = trm [] xs t in
-        one (fits no_env vs T) (evaluated st.named t) (value vs T) _ (Alloc (value vs T ∷ [])) _ (terms t (alloc_scoped x t old new e).plain).answer (alloc_at x (value vs T))
-    follows (s.Free t i p) old new e =
-        let T = trm [] xs t in
-        one (fits no_env vs T) (evaluated st.named t) (value vs T) _ (Free (place_in (value vs T))) _ (terms t (free_scoped (is_built_proof p.kind) t old new e).plain).answer
-        (free_at (place_in (value vs T)) _ refl (found_at (place_in (value vs T))))
-    follows _ old new e = free_at Null None refl (found_at Null)
+    -- a command of a program
+    module _ (spot : Spot) (f : Frame) (names : walk.Scope) (scope : Scope) (tells : Tells names scope) where
+      pub follows : (kind : StmtKind) → is_command kind ≡ true → Walked spot f names scope tells kind → Follows (carried kind st) next (step_at n m (closed vs (stmt_code [] kind xs next)))
+      follows (s.Read x sort t i h p) c e =
+          let T = trm [] xs t in
+          let plain = (read_walked spot f names scope tells x sort t i h p e).place.plain in
+          one (fits no_env vs T) (evaluated st.named t) (value vs T) _ (Read sort (place_in (value vs T))) _ (terms t plain).answer
+          (read_at (place_in (value vs T)) x sort _ refl (found_at (place_in (value vs T))))
+      follows (s.Write t u i p) c e =
+          let T = trm [] xs t in
+          let U = trm [] xs u in
+          let walked = write_walked spot f names scope tells t u i p e in
+          two (fits no_env vs T) (fits no_env vs U) (evaluated st.named t) (evaluated st.named u) (value vs T) (value vs U) _ (Write (place_in (value vs T)) (value vs U)) _
+          (terms t walked.place.plain).answer (terms u walked.value.plain).answer (write_at (place_in (value vs T)) (value vs U) _ refl (found_at (place_in (value vs T))))
+      follows (s.Alloc x (t ∷ [])) c e =
+          let T = trm [] xs t in
+          one (fits no_env vs T) (evaluated st.named t) (value vs T) _ (Alloc (value vs T ∷ [])) _ (terms t (alloc_walked spot f names scope tells x t e).value.plain).answer (alloc_at x (value vs T))
+      follows (s.Free t i p) c e =
+          let T = trm [] xs t in
+          one (fits no_env vs T) (evaluated st.named t) (value vs T) _ (Free (place_in (value vs T))) _ (terms t (free_walked spot f names scope tells t i p e).place.plain).answer
+          (free_at (place_in (value vs T)) _ refl (found_at (place_in (value vs T))))
+      follows (s.Proof x) c e = cc
+      follows _ c e = free_at Null None refl (found_at Null)

@@ -1,8 +1,8 @@
 -- Words and input have one answer.
-use Rattle.std.proofs.Common.{◌≡◌, ◌⊎◌, inl, inr, ℕ, ◌<◌, ◌≤◌, length, false, List, codes, Option, None, Some, refl, sym, ◌∙◌, ap, subst, arith}
+use Rattle.std.proofs.Common.{◌≡◌, ◌⊎◌, inl, inr, ℕ, ◌<◌, ◌≤◌, length, List, codes, Option, None, Some, refl, sym, ◌∙◌, ap, subst, arith}
 use Rattle.tht_tree.specs.declared.file.Source1.{Source1}
 use Rattle.tht_tree.specs.declared.status.Status.{Status}
-use Rattle.tht_tree.specs.declared.status.Status.TheVariants.{Done, TooLong, Text, Rule}
+use Rattle.tht_tree.specs.declared.status.Status.TheVariants.{Done, TooLong, Text, NamesOrSorts, Rule}
 use Rattle.tht_tree.specs.declared.command.Command.{Command}
 use Rattle.tht_tree.specs.declared.command.Command.TheVariants.{Read}
 use Rattle.tht_tree.specs.declared.command.Reader.{Reader}
@@ -18,10 +18,15 @@ use Rattle.tht_tree.specs.Spelling.{IsSpelled, FaultsInSplitting, FaultsInSpelli
 use Rattle.tht_tree.specs.Layout.{layout}
 use Rattle.tht_grammar.proofs.TextFaults.{one_split_fault, one_spelling_fault, not_both}
 use Rattle.tht_front.specs.Refusals.{lex_fault, text_fault}
-use Rattle.tht_front.proofs.Answering.{spelled_in, none_at_fault, none_refused}
+use Rattle.tht_front.proofs.Answering.{spelled_in, none_at_fault, none_refused, none_out_of_order}
 use Rattle.tht_tree.specs.Runs.{start_of}
-use Rattle.tht_tree.specs.CommandLine.{budget, status_of, input_limit, Reports, Takes, Accepts, IsFirstFault, SaysFault, RefusesText, FileAnswers, Answers}
-use Rattle.tht_tree.specs.Rules.Files.{IsAccepted, rules_hold}
+use Rattle.tht_tree.specs.CommandLine.{budget, status_of, input_limit, Reports, Takes, Accepts, IsFirstFault, SaysFault, RefusesText, RefusesNames, FileAnswers, Answers}
+use Rattle.tht_tree.specs.declared.walk.WalkRefusal.{WalkRefusal}
+use Rattle.tht_tree.specs.declared.rule.RuleRefusal.{RuleRefusal}
+use Rattle.tht_tree.specs.Built.{is_built}
+use Rattle.tht_tree.specs.Walk.Files.{first_refusal}
+use Rattle.tht_tree.specs.Lines.{walk_line, rule_line}
+use Rattle.tht_tree.specs.Rules.Files.{IsAccepted, rule_refusal}
 use Rattle.tht_front.proofs.Lowest.{one_run, some_same}
 
 -- ---- a file has one report
@@ -37,10 +42,10 @@ one_report file s t o p a b =
 
 -- the answer of `run`: a refusal by a rule, or a report
 abbrev Said : Source1 → Status → List ℕ → Type 0
-Said file s o = ((s ≡ Rule) × (rules_hold file ≡ false) × (o ≡ codes "rule\n")) ⊎ (IsAccepted file × Reports file s o)
+Said file s o = ((s ≡ Rule) × ((r : RuleRefusal) × (rule_refusal file ≡ Some r) × (o ≡ rule_line r))) ⊎ (IsAccepted file × Reports file s o)
 
 said : (file : Source1) (s : Status) (o : List ℕ) → Accepts Run file s o → Said file s o
-said file Rule o a = inl (refl, a.0, a.1)
+said file Rule o a = inl (refl, a)
 said file s o a = inr a
 
 -- the answer of `print`: the layout
@@ -48,10 +53,13 @@ printed : (file : Source1) (s : Status) (o : List ℕ) → Accepts Print file s 
 printed file Done o a = (refl, a)
 printed file s o a = absurd a
 
+one_rule : (r q : RuleRefusal) → Some r ≡ Some q → r ≡ q
+one_rule r q e = cc
+
 one_said : (file : Source1) (s t : Status) (o p : List ℕ) → Said file s o → Said file t p → (s ≡ t) × (o ≡ p)
-one_said file s t o p (inl a) (inl b) = (a.0 ∙ sym b.0, a.2 ∙ sym b.2)
-one_said file s t o p (inl a) (inr b) = let x = a.1 in let y = b.0.rules in cc
-one_said file s t o p (inr a) (inl b) = let x = a.0.rules in let y = b.1 in cc
+one_said file s t o p (inl a) (inl b) = (a.0 ∙ sym b.0, a.1.2 ∙ ap rule_line (one_rule a.1.0 b.1.0 (sym a.1.1 ∙ b.1.1)) ∙ sym b.1.2)
+one_said file s t o p (inl a) (inr b) = let x = a.1.1 in let y = b.0.rules in cc
+one_said file s t o p (inr a) (inl b) = let x = a.0.rules in let y = b.1.1 in cc
 one_said file s t o p (inr a) (inr b) = one_report file s t o p a.1 b.1
 
 one_accepted : (reader : Reader) (file : Source1) (s t : Status) (o p : List ℕ) → Accepts reader file s o → Accepts reader file t p → (s ≡ t) × (o ≡ p)
@@ -101,12 +109,14 @@ abbrev Answered : Reader → List ℕ → Status → List ℕ → Type 0
 Answered reader input s o =
     ((s ≡ TooLong) × (input_limit < length input) × (o ≡ codes "too long\n"))
     ⊎ (((s ≡ Text) × (length input ≤ input_limit) × RefusesText reader input o)
-    ⊎ Read_so reader input s o)
+    ⊎ (((s ≡ NamesOrSorts) × (length input ≤ input_limit) × RefusesNames reader input o)
+    ⊎ Read_so reader input s o))
 
 answered : (reader : Reader) (input : List ℕ) (s : Status) (o : List ℕ) → FileAnswers reader input s o → Answered reader input s o
 answered reader input TooLong o a = inl (refl, a.0, a.1)
 answered reader input Text o a = inr (inl (refl, a.0, a.1))
-answered reader input s o a = inr (inr a)
+answered reader input NamesOrSorts o a = inr (inr (inl (refl, a.0, a.1)))
+answered reader input s o a = inr (inr (inr a))
 
 too_long : (n m : ℕ) → n < m → m ≤ n → ⊥
 too_long n m l g = absurd (omega arith)
@@ -122,16 +132,42 @@ module _ (one_file : (a b : Source1) (bytes : List ℕ) → IsSpelled a bytes �
   apart : (reader : Reader) (input : List ℕ) (s : Status) (o p : List ℕ) → RefusesText reader input o → Read_so reader input s p → ⊥
   apart reader input s o p a b = none_refused one_file reader input o a b.0 b.2
 
+  -- nor one whose names and sorts are not in order
+  apart_names : (reader : Reader) (input : List ℕ) (s : Status) (o p : List ℕ) → RefusesNames reader input o → Read_so reader input s p → ⊥
+  apart_names reader input s o p a b = none_out_of_order one_file reader input o a b.0 b.2
+
+  one_walk : (r q : WalkRefusal) → Some r ≡ Some q → r ≡ q
+  one_walk r q e = cc
+
+  one_names : (reader : Reader) (input o p : List ℕ) → RefusesNames reader input o → RefusesNames reader input p → o ≡ p
+  one_names Run input o p a b =
+      let same : a.file ≡ b.file = one_file a.file b.file input a.spelled b.spelled in
+      a.line ∙ ap walk_line (one_walk a.refusal b.refusal (sym a.first ∙ ap first_refusal same ∙ b.first)) ∙ sym b.line
+  one_names Print input o p a b = absurd a
+
+  -- what is refused as a text has no names to refuse
+  apart_text : (reader : Reader) (input o p : List ℕ) → RefusesText reader input o → RefusesNames reader input p → ⊥
+  apart_text Run input o p (inl a) b = none_at_fault input o a Print b.file b.spelled
+  apart_text Run input o p (inr a) b = let same = one_file a.file b.file input a.spelled b.spelled in let later = a.later in let now = b.built in cc (ap is_built same)
+  apart_text Print input o p a b = absurd b
+
   one_answered : (reader : Reader) (input : List ℕ) (s t : Status) (o p : List ℕ) → Answered reader input s o → Answered reader input t p → (s ≡ t) × (o ≡ p)
   one_answered reader input s t o p (inl a) (inl b) = (a.0 ∙ sym b.0, a.2 ∙ sym b.2)
   one_answered reader input s t o p (inl a) (inr (inl b)) = absurd (too_long input_limit (length input) a.1 b.1)
-  one_answered reader input s t o p (inl a) (inr (inr b)) = absurd (too_long input_limit (length input) a.1 b.1)
+  one_answered reader input s t o p (inl a) (inr (inr (inl b))) = absurd (too_long input_limit (length input) a.1 b.1)
+  one_answered reader input s t o p (inl a) (inr (inr (inr b))) = absurd (too_long input_limit (length input) a.1 b.1)
   one_answered reader input s t o p (inr (inl a)) (inl b) = absurd (too_long input_limit (length input) b.1 a.1)
   one_answered reader input s t o p (inr (inl a)) (inr (inl b)) = (a.0 ∙ sym b.0, one_refusal reader input o p a.2 b.2)
-  one_answered reader input s t o p (inr (inl a)) (inr (inr b)) = absurd (apart reader input t o p a.2 b)
-  one_answered reader input s t o p (inr (inr a)) (inl b) = absurd (too_long input_limit (length input) b.1 a.1)
-  one_answered reader input s t o p (inr (inr a)) (inr (inl b)) = absurd (apart reader input s p o b.2 a)
-  one_answered reader input s t o p (inr (inr a)) (inr (inr b)) = one_read reader input s t o p a b
+  one_answered reader input s t o p (inr (inl a)) (inr (inr (inl b))) = absurd (apart_text reader input o p a.2 b.2)
+  one_answered reader input s t o p (inr (inl a)) (inr (inr (inr b))) = absurd (apart reader input t o p a.2 b)
+  one_answered reader input s t o p (inr (inr (inl a))) (inl b) = absurd (too_long input_limit (length input) b.1 a.1)
+  one_answered reader input s t o p (inr (inr (inl a))) (inr (inl b)) = absurd (apart_text reader input p o b.2 a.2)
+  one_answered reader input s t o p (inr (inr (inl a))) (inr (inr (inl b))) = (a.0 ∙ sym b.0, one_names reader input o p a.2 b.2)
+  one_answered reader input s t o p (inr (inr (inl a))) (inr (inr (inr b))) = absurd (apart_names reader input t o p a.2 b)
+  one_answered reader input s t o p (inr (inr (inr a))) (inl b) = absurd (too_long input_limit (length input) b.1 a.1)
+  one_answered reader input s t o p (inr (inr (inr a))) (inr (inl b)) = absurd (apart reader input s p o b.2 a)
+  one_answered reader input s t o p (inr (inr (inr a))) (inr (inr (inl b))) = absurd (apart_names reader input s p o b.2 a)
+  one_answered reader input s t o p (inr (inr (inr a))) (inr (inr (inr b))) = one_read reader input s t o p a b
 
   -- Words and input have one status and one output.
   pub one_answer : (command : Option Command) (input : List ℕ) (s t : Status) (o p : List ℕ) → Answers command input s o → Answers command input t p → (s ≡ t) × (o ≡ p)

@@ -3,7 +3,7 @@ use Rattle.std.specs.Prelude.{◌≡◌, ℕ, List, codes, Option, None, Some, t
 use Rattle.tht_tree.specs.declared.plain.Spot.{Spot}
 use Rattle.tht_tree.specs.declared.file.Source1.{Source1}
 use Rattle.tht_tree.specs.declared.status.Status.{Status}
-use Rattle.tht_tree.specs.declared.status.Status.TheVariants.{Done, Text}
+use Rattle.tht_tree.specs.declared.status.Status.TheVariants.{Done, Text, NamesOrSorts}
 use Rattle.tht_tree.specs.declared.command.Reader.{Reader}
 use Rattle.tht_tree.specs.declared.command.Reader.TheVariants.{Run, Print}
 use Rattle.tht_tree.specs.declared.text_fault.TextFault.{TextFault}
@@ -13,7 +13,10 @@ use Rattle.tht_tree.specs.Splitting as split
 use Rattle.tht_tree.specs.Faults as fault
 use Rattle.tht_tree.specs.Texts.{fault_text}
 use Rattle.tht_tree.specs.Layout.{layout}
-use Rattle.tht_tree.specs.Rules.Scoping.{is_well_sorted}
+use Rattle.tht_tree.specs.declared.walk.WalkRefusal.{WalkRefusal}
+use Rattle.tht_tree.specs.Built.{is_built}
+use Rattle.tht_tree.specs.Walk.Files.{first_refusal, WellSorted}
+use Rattle.tht_tree.specs.Lines.{walk_line}
 use Rattle.tht_tree.specs.CommandLine.{Accepts}
 use Rattle.tht_parse.specs.declared.end.ParseEnd.{ParseEnd}
 use Rattle.tht_parse.specs.declared.end.ParseEnd.TheVariants as end
@@ -50,8 +53,10 @@ IsLineAt (Some (fault, spot)) output = output ≡ fault_text fault spot
 abbrev pub IsLineOf : ParseEnd → List ℕ → Type 0
 IsLineOf e output = IsLineAt (fault_in e) output
 
--- what a command answers to a file that the input spells: that it is not built yet, or as it does to a file that it takes
+-- what a command answers to a file that the input spells: that it is not built yet, that its names or sorts are not in order, or as
+-- it does to a file that it takes
 abbrev pub AnswersTo : Reader → Source1 → Status → List ℕ → Type 0
-AnswersTo Run file Text output = (is_well_sorted file ≡ false) × (output ≡ codes "text later\n")
-AnswersTo Run file status output = (is_well_sorted file ≡ true) × IsTrue (is_past_text status) × Accepts Run file status output
+AnswersTo Run file Text output = (is_built file ≡ false) × (output ≡ codes "text later\n")
+AnswersTo Run file NamesOrSorts output = (refusal : WalkRefusal) × (is_built file ≡ true) × (first_refusal file ≡ Some refusal) × (output ≡ walk_line refusal)
+AnswersTo Run file status output = (is_built file ≡ true) × WellSorted file × IsTrue (is_past_text status) × Accepts Run file status output
 AnswersTo Print file status output = (status ≡ Done) × (output ≡ layout file)

@@ -129,3 +129,8 @@ carried (s.Write t u i p) st = after_write st t u
 carried (s.Alloc x (t ∷ [])) st = after_alloc st x t
 carried (s.Free t i p) st = after_free st t
 carried _ st = fault
+
+-- a statement that is a step of the machine: a proof step is none
+abbrev pub is_command : StmtKind → Bool
+is_command (s.Proof x) = false
+is_command _ = true

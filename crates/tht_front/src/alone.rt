@@ -1,7 +1,7 @@
 // The top call.
 ghost use Rattle.std.specs.Prelude.{◌≡◌, ◌≢◌, ◌<◌, ◌⊎◌, length, List, ℕ, map, string_bytes, IsTrue, None, Some, IfSome, IfOk, IsErrOf};
 ghost use Rattle.std.specs.Io.KnownBytes.{Keeps};
-ghost use Rattle.tht_tree.specs.CommandLine.{asked, Answers, EndsSo, FileAnswers, HasAnswered, HasInput, IsRefused, RunHasEnded, TakesNone, ends_a_run, input_limit};
+ghost use Rattle.tht_tree.specs.CommandLine.{asked, Answers, EndsSo, FileAnswers, HasAnswered, HasInput, IsRefused, IsOutOfOrder, RunHasEnded, TakesNone, ends_a_run, input_limit};
 ghost use Rattle.tht_ports.specs.Causes.{Rose};
 
 use crate::answer::{answer_to, line};
@@ -40,6 +40,7 @@ pub fn tht_alone<S: Source, T: Sink>(
     ensures too_long { result ≡ Status.TooLong → IfSome (S.left source.old) (λ input. input_limit < length input) }
     ensures text { (reader : Reader) → asked (map string_bytes words.now) ≡ Some (Command.Read reader) → result ≡ Status.Text →
         IfSome (S.left source.old) (λ input. TakesNone input reader) }
+    ensures names { result ≡ Status.NamesOrSorts → IfSome (S.left source.old) IsOutOfOrder }
     ensures rule { result ≡ Status.Rule → IfSome (S.left source.old) IsRefused }
     ensures spent { result ≡ Status.Spent → IfSome (S.left source.old) (EndsSo End.Spent) }
     ensures big { result ≡ Status.Big → IfSome (S.left source.old) (EndsSo End.Big) }
@@ -82,6 +83,7 @@ fn answer_from<S: Source>(
         IfSome (S.left source.old) (λ input. input_limit < length input)) }
     ensures text { IfOk result (λ answer. (reader : Reader) → asked (map string_bytes words.now) ≡ Some (Command.Read reader) →
         answer.status ≡ Status.Text → IfSome (S.left source.old) (λ input. TakesNone input reader)) }
+    ensures names { IfOk result (λ answer. answer.status ≡ Status.NamesOrSorts → IfSome (S.left source.old) IsOutOfOrder) }
     ensures rule { IfOk result (λ answer. answer.status ≡ Status.Rule → IfSome (S.left source.old) IsRefused) }
     ensures spent { IfOk result (λ answer. answer.status ≡ Status.Spent → IfSome (S.left source.old) (EndsSo End.Spent)) }
     ensures big { IfOk result (λ answer. answer.status ≡ Status.Big → IfSome (S.left source.old) (EndsSo End.Big)) }

@@ -1,8 +1,9 @@
 // What is answered to the words and the input.
 ghost use Rattle.std.specs.Prelude.{◌≡◌, ◌≤◌, length, true, IfOk, IsTrue};
 ghost use Rattle.tht_tree.specs.CommandLine.{Accepts, FileAnswers, budget, status_of as status_said};
+ghost use Rattle.tht_tree.specs.Built.{is_built as built};
+ghost use Rattle.tht_tree.specs.Walk.Files.{WellSorted};
 ghost use Rattle.tht_tree.specs.Rules.Files.{IsAccepted};
-ghost use Rattle.tht_tree.specs.Rules.Scoping.{is_well_sorted};
 ghost use Rattle.tht_tree.specs.Layout.{layout};
 ghost use Rattle.tht_front.specs.Refusals.{fault_in, AnswersTo, IsLineOf};
 ghost use Rattle.tht_front.specs.Decided.{is_decided, is_past_text};
@@ -10,9 +11,11 @@ ghost use Rattle.tht_front.specs.Outcomes.{RunEnds};
 
 use crate::course::Course;
 use crate::decided::Answer;
+use crate::lines::{rule_line, walk_line};
 use crate::report::{Ran, report};
 use crate::run::run;
-use hoare_rules::{Refusal, WalkEnd, body_holds, well_sorted};
+use hoare_rules::{Refusal, body_holds, is_built};
+use name_walk::files::{WalkEnd, well_sorted};
 use std::alloc::{AllocError, Global};
 use tht_parse::{ParseEnd, parse};
 use tht_print::print;
@@ -87,7 +90,7 @@ fn answer_to_file(alloc: Global, reader: Reader, file: &Source1) -> Result<Answe
 {
     match reader {
         Reader::Print => printed(alloc, file),
-        Reader::Run => sorted(alloc, file),
+        Reader::Run => later(alloc, file),
     }
 }
 
@@ -104,26 +107,39 @@ fn printed(alloc: Global, file: &Source1) -> Result<Answer, AllocError>
 }
 
 // The answer of `run` to a file that may not be built yet.
+fn later(alloc: Global, file: &Source1) -> Result<Answer, AllocError>
+    ensures { IfOk result (λ answer. AnswersTo Reader.Run file.now answer.status answer.output.items) }
+{
+    if is_built(file) {
+        sorted(alloc, file)
+    } else {
+        line(alloc, Status::Text, b"text later\n")
+    }
+}
+
+// The answer of `run` to a file whose names and sorts may not be in order.
 fn sorted(alloc: Global, file: &Source1) -> Result<Answer, AllocError>
+    requires { built file.now ≡ true }
     ensures { IfOk result (λ answer. AnswersTo Reader.Run file.now answer.status answer.output.items) }
 {
     match well_sorted(alloc, file) {
         Ok(()) => checked(alloc, file),
-        Err(WalkEnd::Refused) => line(alloc, Status::Text, b"text later\n"),
+        Err(WalkEnd::Refused(refusal)) => walk_line(alloc, refusal),
         Err(WalkEnd::Memory) => Err(AllocError),
     }
 }
 
 // The answer of `run`.
 fn checked(alloc: Global, file: &Source1) -> Result<Answer, AllocError>
-    requires { is_well_sorted file.now ≡ true }
+    requires built { built file.now ≡ true }
+    requires sorted { WellSorted file.now }
     ensures output { IfOk result (λ answer. Accepts Reader.Run file.now answer.status answer.output.items) }
     ensures status { IfOk result (λ answer. IsTrue (is_past_text answer.status)) }
 {
     let post = post_of(alloc, &file.main)?;
     match body_holds(alloc, State::new(alloc), file.main.body.get(), &post) {
         Ok(()) => accepted(alloc, file),
-        Err(Refusal::Rule) => line(alloc, Status::Rule, b"rule\n"),
+        Err(Refusal::Rule(refusal)) => rule_line(alloc, refusal),
         Err(Refusal::Memory) => Err(AllocError),
     }
 }

@@ -6,6 +6,7 @@ mod answer;
 mod course;
 mod decided;
 mod laws;
+mod lines;
 mod report;
 mod run;
 mod runner;

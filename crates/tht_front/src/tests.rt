@@ -1,4 +1,7 @@
 // The worked cases of the top call, over a source and a sink in memory.
+mod names;
+mod rules;
+
 use crate::tht_alone;
 use crate::values::evaluate;
 use sqlite_items::Boxed;
@@ -65,7 +68,7 @@ fn each_source_has_its_status_and_output(rt: HostRuntime) -> Result<(), Fail> {
             Status::Big,
             b"end big 0\nevents 1\ncost 1\naborts 0\norder\n0\n",
         ),
-        (CELL_LEFT, Status::Rule, b"rule\n"),
+        (CELL_LEFT, Status::Rule, b"rule 6:3 R3\n"),
         (
             b"tht 1\nmain r : nat { emp } { ret 3 by emp }\n",
             Status::Done,
@@ -78,8 +81,8 @@ fn each_source_has_its_status_and_output(rt: HostRuntime) -> Result<(), Fail> {
         ),
         (
             b"tht 1 main r : nat { emp } { ret x by emp }",
-            Status::Text,
-            b"text later\n",
+            Status::NamesOrSorts,
+            b"names 1:30 N1\n",
         ),
         (b"", Status::Text, b"text 1:1 unexpected\n"),
         (
@@ -266,6 +269,15 @@ fn writes(alloc: Global, source: Vec<u8>, output: &[u8]) -> Result<bool, AllocEr
     Ok(sink.bytes() == output)
 }
 
+// Whether a run of the source has this status and writes this output.
+fn runs_so(alloc: Global, source: &str, status: Status, output: &str) -> Result<bool, AllocError> {
+    let words = words_of(alloc, &["run", "--workers", "1"])?;
+    let mut source = MemSource::new(source.as_bytes().to_vec(alloc)?, Vec::new(alloc));
+    let mut sink = MemSink::new(alloc, 100, Vec::new(alloc)).map_err(no_memory)?;
+    let ended = tht_alone(alloc, &words, &mut source, &mut sink);
+    Ok(ended == status && sink.bytes() == output.as_bytes())
+}
+
 fn has_value(alloc: Global, row: (&str, &str, Option<&str>)) -> Result<bool, AllocError> {
     let (sort, term, value) = row;
     let source = returning(alloc, sort, term)?;
@@ -329,6 +341,6 @@ fn an_index_past_the_machine_is_big(rt: HostRuntime) -> Result<(), Fail> {
 fn a_sequence_is_of_the_logic_alone(rt: HostRuntime) -> Result<(), Fail> {
     let alloc = rt.alloc();
     let source = returning(alloc, "nat", "len (1 :: nil)")?;
-    assert_eq!(rt; writes(alloc, source, b"text later\n")?, true);
+    assert_eq!(rt; writes(alloc, source, b"sorts 1:30 S2\n")?, true);
     Ok(())
 }

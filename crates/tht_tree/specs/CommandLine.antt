@@ -5,12 +5,16 @@ use Rattle.tht_tree.specs.declared.file.Source1.{Source1}
 use Rattle.tht_tree.specs.declared.run.End.{End}
 use Rattle.tht_tree.specs.declared.run.End.TheVariants as end
 use Rattle.tht_tree.specs.declared.status.Status.{Status}
-use Rattle.tht_tree.specs.declared.status.Status.TheVariants.{Done, Words, ReadFault, WriteFault, TooLong, Text, Rule, Spent, Big, Memory}
+use Rattle.tht_tree.specs.declared.status.Status.TheVariants.{Done, Words, ReadFault, WriteFault, TooLong, Text, NamesOrSorts, Rule, Spent, Big, Memory}
 use Rattle.tht_tree.specs.declared.command.Command.{Command}
 use Rattle.tht_tree.specs.declared.command.Command.TheVariants.{Read}
 use Rattle.tht_tree.specs.declared.command.Reader.{Reader}
 use Rattle.tht_tree.specs.declared.command.Reader.TheVariants.{Run, Print}
-use Rattle.tht_tree.specs.Rules.Files.{IsSource, IsAccepted, rules_hold}
+use Rattle.tht_tree.specs.declared.walk.WalkRefusal.{WalkRefusal}
+use Rattle.tht_tree.specs.declared.rule.RuleRefusal.{RuleRefusal}
+use Rattle.tht_tree.specs.Built.{is_built}
+use Rattle.tht_tree.specs.Walk.Files.{first_refusal}
+use Rattle.tht_tree.specs.Rules.Files.{IsSource, rule_refusal, IsAccepted}
 use Rattle.tht_tree.specs.declared.plain.Spot.{Spot}
 use Rattle.tht_tree.specs.declared.text_fault.TextFault.{TextFault}
 use Rattle.tht_tree.specs.declared.text_fault.TextFault.TheVariants as f
@@ -21,14 +25,14 @@ use Rattle.tht_tree.specs.Faults as fault
 use Rattle.tht_tree.specs.Spelling.{IsSpelled, FaultsInSplitting, FaultsInSpelling}
 use Rattle.tht_tree.specs.Syntax.{root_names}
 use Rattle.tht_tree.specs.Layout.{layout}
-use Rattle.tht_tree.specs.Rules.Scoping.{is_well_sorted}
 use Rattle.tht_tree.specs.Runs.{State, start_of, run_of, cost_of, Ends, GoesLowest}
 use Rattle.tht_tree.specs.Soundness.{IsSound}
 use Rattle.tht_tree.specs.Texts.{fault_text, report_text}
+use Rattle.tht_tree.specs.Lines.{walk_line, rule_line}
 
 -- ---- statuses
 
--- the exit status; 6 and 11 to 13 are kept for commands to come
+-- the exit status; 11 to 13 are kept for commands to come
 abbrev pub number_of : Status → ℕ
 number_of Done = 0
 number_of Words = 1
@@ -36,6 +40,7 @@ number_of ReadFault = 2
 number_of WriteFault = 3
 number_of TooLong = 4
 number_of Text = 5
+number_of NamesOrSorts = 6
 number_of Rule = 7
 number_of Spent = 8
 number_of Big = 9
@@ -77,8 +82,8 @@ pub record Reports (file : Source1) (status : Status) (output : List ℕ) : Type
   pub status_is : status ≡ status_of end
   pub output_is : output ≡ report_text (root_names file) end (cost_of budget last) 0 order
 
--- What a command takes as its input: the bytes spell the file, and for `run` its names and sorts are in order and all of its
--- forms are built.
+-- What a command takes as its input: the bytes spell the file, and for `run` all of its forms are built and its names and sorts
+-- are in order.
 abbrev pub Takes : Reader → List ℕ → Source1 → Type 0
 Takes Run input file = IsSource input file
 Takes Print input file = IsSpelled file input
@@ -90,7 +95,7 @@ TakesNone input reader = (file : Source1) → Takes reader input file → ⊥
 abbrev pub Accepts : Reader → Source1 → Status → List ℕ → Type 0
 Accepts Print file Done output = output ≡ layout file
 Accepts Print file status output = ⊥
-Accepts Run file Rule output = (rules_hold file ≡ false) × (output ≡ codes "rule\n")
+Accepts Run file Rule output = (refusal : RuleRefusal) × (rule_refusal file ≡ Some refusal) × (output ≡ rule_line refusal)
 Accepts Run file status output = IsAccepted file × Reports file status output
 
 -- the first fault of the input stands at this spot
@@ -110,22 +115,37 @@ pub record SaysFault (input output : List ℕ) : Type 0 where
   pub first : IsFirstFault input fault spot
   pub line : output ≡ fault_text fault spot
 
--- the input spells a file that no command but `print` takes yet: a form of it is not built, or a name or a sort is not in order
+-- the input spells a file that no command but `print` takes yet: a form of it is not built
 pub record SaysLater (input output : List ℕ) : Type 0 where
   pub file : Source1
   pub spelled : IsSpelled file input
-  pub later : is_well_sorted file ≡ false
+  pub later : is_built file ≡ false
   pub line : output ≡ codes "text later\n"
+
+-- the output is the line of the first refusal of the names and sorts of the file that the input spells, whose forms are built
+pub record SaysRefusal (input output : List ℕ) : Type 0 where
+  pub file : Source1
+  pub spelled : IsSpelled file input
+  pub built : is_built file ≡ true
+  pub refusal : WalkRefusal
+  pub first : first_refusal file ≡ Some refusal
+  pub line : output ≡ walk_line refusal
 
 abbrev pub RefusesText : Reader → List ℕ → List ℕ → Type 0
 RefusesText Run input output = SaysFault input output ⊎ SaysLater input output
 RefusesText Print input output = SaysFault input output
 
+-- `print` takes names and sorts as they are
+abbrev pub RefusesNames : Reader → List ℕ → List ℕ → Type 0
+RefusesNames Run input output = SaysRefusal input output
+RefusesNames Print input output = ⊥
+
 -- What a command that reads a source answers to its input, by the status. Refusals come in this order: too long, the first
--- fault of the text, forms that are not built, a rule; then the run's end.
+-- fault of the text, forms that are not built, names and sorts, a rule; then the run's end.
 abbrev pub FileAnswers : Reader → List ℕ → Status → List ℕ → Type 0
 FileAnswers reader input TooLong output = (input_limit < length input) × (output ≡ codes "too long\n")
 FileAnswers reader input Text output = (length input ≤ input_limit) × RefusesText reader input output
+FileAnswers reader input NamesOrSorts output = (length input ≤ input_limit) × RefusesNames reader input output
 FileAnswers reader input status output = (file : Source1) × (length input ≤ input_limit) × Takes reader input file × Accepts reader file status output
 
 -- the one answer to the words and the input
@@ -154,7 +174,11 @@ HasAnswered command input old new status = (output : List ℕ) × Answers comman
 
 -- the input spells a file that a rule refuses
 abbrev pub IsRefused : List ℕ → Type 0
-IsRefused input = (file : Source1) × IsSource input file × (rules_hold file ≡ false)
+IsRefused input = (file : Source1) × (refusal : RuleRefusal) × IsSource input file × (rule_refusal file ≡ Some refusal)
+
+-- the input spells a file whose forms are built, and whose names and sorts are not in order
+abbrev pub IsOutOfOrder : List ℕ → Type 0
+IsOutOfOrder input = (file : Source1) × (refusal : WalkRefusal) × IsSpelled file input × (is_built file ≡ true) × (first_refusal file ≡ Some refusal)
 
 -- the run of the file that the input spells ends so, for some branch
 abbrev pub EndsSo : (ℕ → End) → List ℕ → Type 0

@@ -20,6 +20,8 @@ pub mod Layout
 pub mod Rules
 pub mod Normal
 pub mod Bodies
+pub mod Built
 pub mod Texts
+pub mod Lines
 pub mod Walk
 pub mod CommandLine

@@ -114,6 +114,7 @@ stmt_code roots (s.Read x sort t i h p) xs next = read sort (trm roots xs t) (ne
 stmt_code roots (s.Write t u i p) xs next = write (trm roots xs t) (trm roots xs u) (next xs)
 stmt_code roots (s.Alloc x (t ∷ [])) xs next = alloc (trm roots xs t ∷ []) (next (x ∷ xs))
 stmt_code roots (s.Free t i p) xs next = drop (trm roots xs t) (next xs)
+stmt_code roots (s.Proof x) xs next = next xs
 stmt_code roots _ xs next = drop (lit (is v.Unit)) (next xs)
 
 abbrev pub stmts_code : Names → List Stmt → (Names → Code) → Names → Code

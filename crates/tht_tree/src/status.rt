@@ -2,7 +2,7 @@
 ghost use Rattle.std.specs.Prelude.{◌≡◌};
 ghost use Rattle.tht_tree.specs.CommandLine.{number_of};
 
-/// How the program ends. The numbers 6 and 11 to 13 are kept for statuses that no command has yet.
+/// How the program ends. The numbers 11 to 13 are kept for statuses that no command has yet.
 #[derive(Clone, Copy, Debug, PartialEq, Eq)]
 pub enum Status {
     Done,
@@ -11,6 +11,7 @@ pub enum Status {
     WriteFault,
     TooLong,
     Text,
+    NamesOrSorts,
     Rule,
     Spent,
     Big,
@@ -29,6 +30,7 @@ impl Status {
             Status::WriteFault => 3,
             Status::TooLong => 4,
             Status::Text => 5,
+            Status::NamesOrSorts => 6,
             Status::Rule => 7,
             Status::Spent => 8,
             Status::Big => 9,

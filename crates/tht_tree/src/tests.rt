@@ -302,6 +302,7 @@ fn the_deepest_give_fits_the_stack(rt: HostRuntime) -> Result<(), Fail> {
 #[test]
 fn statuses_have_their_numbers(rt: HostRuntime) {
     assert_eq!(rt; Status::Done.number(), 0);
+    assert_eq!(rt; Status::NamesOrSorts.number(), 6);
     assert_eq!(rt; Status::Rule.number(), 7);
     assert_eq!(rt; Status::Memory.number(), 10);
 }

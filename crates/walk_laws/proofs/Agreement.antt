@@ -1,5 +1,5 @@
 -- The two folds over a term agree: it has a sort exactly where the walk refuses nothing in it, and then the walk finds that sort.
-use Rattle.std.proofs.Common.{◌≡◌, ℕ, Bool, true, false, cond, refl, subst, List, [], ◌∷◌, Option, Some, None, Result, Ok, Err, nat_le}
+use Rattle.std.proofs.Common.{◌≡◌, ℕ, Bool, true, false, ◌&&◌, cond, refl, ◌∙◌, ap, subst, List, [], ◌∷◌, Option, Some, None, Result, Ok, Err, nat_le}
 use Rattle.tht_tree.specs.declared.plain.Sort.{Sort}
 use Rattle.tht_tree.specs.declared.plain.Sort.TheVariants as sort
 use Rattle.tht_tree.specs.declared.term.Term.{Term}
@@ -7,12 +7,13 @@ use Rattle.tht_tree.specs.declared.term.Term.TheVariants as t
 use Rattle.tht_tree.specs.declared.term.Term.TheOpen as f
 use Rattle.tht_tree.proofs.TermFolds as p
 use Rattle.tht_tree.specs.declared.walk.WalkCode.{WalkCode}
-use Rattle.tht_tree.specs.declared.walk.WalkCode.TheVariants.{S1}
+use Rattle.tht_tree.specs.declared.walk.WalkCode.TheVariants.{S1, S2}
 use Rattle.tht_tree.specs.Walk.Codes.{line_of, first, first_of, unless}
 use Rattle.tht_tree.specs.declared.walk.Class.{Class}
 use Rattle.tht_tree.specs.declared.walk.Class.TheVariants.{Root, Predicate, Lemma, Txn, Proc, Program, Logic, Hypothesis}
 use Rattle.tht_tree.specs.Walk.Names.{Scope}
 use Rattle.tht_tree.specs.declared.walk.SortEnd.{SortEnd}
+use Rattle.tht_tree.specs.declared.walk.SortEnd.TheVariants.{LogicOnly}
 use Rattle.tht_tree.specs.declared.walk.Found.{Found}
 use Rattle.tht_tree.specs.Walk.Sorts.{same_sort, part, parts, logic_only, of_sort, name_sort, sort_at, sort_of, clash, wants, found_of, of_logic, agree, found_name, found_at, found}
 
@@ -84,7 +85,9 @@ logic_same false = refl
 name_agrees : (program : Bool) (x : List ℕ) (c : Option Class) → Agree (name_sort program x c) (found_name program c)
 name_agrees program x None = tt
 name_agrees program x (Some Root) = (refl, refl)
-name_agrees program x (Some (Program s)) = (refl, refl)
+name_agrees program x (Some (Program s)) =
+    let in_program = program && same_sort s sort.Seq in
+    one s (logic_only in_program) (of_logic in_program) (logic_same in_program)
 name_agrees program x (Some (Logic s)) = one s (logic_only program) (of_logic program) (logic_same program)
 name_agrees program x (Some (Predicate a ss n)) = tt
 name_agrees program x (Some (Lemma ss n)) = tt
@@ -155,3 +158,13 @@ module _ (scope : Scope) (program : Bool) where
   agrees (p.And a b) = subst A (p.And-is a b) (from (p.at-And _ S a b) (p.at-And _ F a b) (in_two sort.Bool sort.Bool sort.Bool a b (agrees a) (agrees b)))
   agrees (p.Or a b) = subst A (p.Or-is a b) (from (p.at-Or _ S a b) (p.at-Or _ F a b) (in_two sort.Bool sort.Bool sort.Bool a b (agrees a) (agrees b)))
   agrees (p.Imp a b) = subst A (p.Imp-is a b) (from (p.at-Imp _ S a b) (p.at-Imp _ F a b) (in_two sort.Bool sort.Bool sort.Bool a b (agrees a) (agrees b)))
+
+-- a variable of the program that stands for a sequence is of the logic alone
+module _ (scope : Scope) (x : List ℕ) (known : scope x ≡ Some (Program sort.Seq)) where
+  pub sequence_has_no_sort : sort_of scope true (t.Var x) ≡ Err LogicOnly
+  unfolding sort_of
+  sequence_has_no_sort = p.at-Var _ (sort_at scope true) x ∙ ap (name_sort true x) known
+
+  pub sequence_is_refused : (found scope true (t.Var x)).code ≡ Some S2
+  unfolding found
+  sequence_is_refused = ap (λ y. y.code) (p.at-Var _ (found_at scope true) x) ∙ ap (λ c. (found_name true c).code) known

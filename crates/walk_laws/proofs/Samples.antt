@@ -343,6 +343,15 @@ n2_case_names : first_refusal n2_case_names_file ≡ refused 2 1 N2
 n2_case_names = simp (levels)
 
 --     tht 1
+--     pred l (s : seq, s : nat) on s nil = [s = 0] cons m t = emp;
+--     main r : nat { emp } { ret 0 by emp }
+abbrev n2_one_is_replaced_file : Source1
+n2_one_is_replaced_file = record { version = 1; decls = (record { spot = (at 2 1); kind = d.PredOn access.Private (108 ∷ []) (record { name = (115 ∷ []); sort = sort.Seq } ∷ record { name = (115 ∷ []); sort = sort.Nat } ∷ []) (115 ∷ []) (an (a.Fact (tm (t.Eq (tm (t.Var (115 ∷ []))) (tm (t.Num 0)))))) (109 ∷ []) (116 ∷ []) (an (a.Emp)) } ∷ []); main = record { spot = (at 3 1); result = (114 ∷ []); sort = sort.Nat; post = (an (a.Emp)); body = (block [] (record { spot = (at 3 24); kind = the_end (b.Ret (tm (t.Num 0)) (record { spot = (at 3 33); kind = a_give (g.Emp) })) })) } }
+
+n2_one_is_replaced : first_refusal n2_one_is_replaced_file ≡ refused 2 1 N2
+n2_one_is_replaced = simp (levels)
+
+--     tht 1
 --     pred l (s : seq) on s nil = emp cons s t = l(t);
 --     main r : nat { emp } { ret 0 by emp }
 abbrev ok_case_names_file : Source1

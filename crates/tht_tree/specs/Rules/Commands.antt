@@ -1,111 +1,96 @@
--- The rules of commands: what the checker knows after a statement, or nothing where the statement is refused. Proofs, gives,
--- assertions, statements and ends that are not named here are not built yet: each is refused.
-use Rattle.std.specs.Prelude.{ℕ, ◌+◌, Bool, true, false, ◌&&◌, List, [], ◌∷◌, ◌++◌, Option, Some, None, if◌then◌else◌}
+-- The rules of statements: what the checker knows after a statement, or the first that is refused in it. Statements that are not
+-- named here are not built yet.
+use Rattle.std.specs.Prelude.{ℕ, ◌+◌, List, [], ◌∷◌, ◌++◌, Option, Some, None, Result, Ok, Err, if◌then◌else◌}
+use Rattle.tht_tree.specs.declared.plain.Spot.{Spot}
 use Rattle.tht_tree.specs.declared.plain.Sort.{Sort}
 use Rattle.tht_tree.specs.declared.plain.Sort.TheVariants as sort
 use Rattle.tht_tree.specs.declared.term.Term.{Term}
 use Rattle.tht_tree.specs.declared.term.Term.TheVariants as term
 use Rattle.tht_tree.specs.declared.assn.Assn.{Assn}
 use Rattle.tht_tree.specs.declared.assn.Assn.TheVariants as a
-use Rattle.tht_tree.specs.declared.proof.ProofKind.{ProofKind}
-use Rattle.tht_tree.specs.declared.proof.ProofKind.TheVariants.{Refl}
-use Rattle.tht_tree.specs.declared.give.GiveKind.{GiveKind}
-use Rattle.tht_tree.specs.declared.give.GiveKind.TheVariants.{Emp}
-use Rattle.tht_tree.specs.declared.body.Body.{Body}
-use Rattle.tht_tree.specs.declared.body.Stmt.{Stmt}
+use Rattle.tht_tree.specs.declared.proof.Proof.{Proof}
+use Rattle.tht_tree.specs.declared.step.StepKind.{StepKind}
+use Rattle.tht_tree.specs.declared.step.StepKind.TheVariants as t
 use Rattle.tht_tree.specs.declared.body.StmtKind.{StmtKind}
 use Rattle.tht_tree.specs.declared.body.StmtKind.TheVariants as s
-use Rattle.tht_tree.specs.declared.body.EndKind.{EndKind}
-use Rattle.tht_tree.specs.declared.body.EndKind.TheVariants as e
+use Rattle.tht_tree.specs.declared.rule.RuleCode.{RuleCode}
+use Rattle.tht_tree.specs.declared.rule.RuleCode.TheVariants.{R1, R2, R5, R10}
+use Rattle.tht_tree.specs.declared.rule.RuleRefusal.{RuleRefusal}
 use Rattle.tht_tree.specs.declared.state.Local.TheVariants.{Variable, Hypothesis}
-use Rattle.tht_tree.specs.SameTree.{same_of}
-use Rattle.tht_tree.specs.Syntax.{Names, stmts_of, end_of}
-use Rattle.tht_tree.specs.Lists.{is_nil}
 use Rattle.tht_tree.specs.Rules.Sizes.{formula_fits, assn_fits}
 use Rattle.tht_tree.specs.Rules.Context.{with_local, Context, atom_at, without_atom, with_atom, context_fits}
 use Rattle.tht_tree.specs.Rules.Scoping.{sort_of, is_of}
+use Rattle.tht_tree.specs.Rules.Refusals.{needs, ◌▸◌}
+use Rattle.tht_tree.specs.Rules.Known.{Declared, with_hyp}
+use Rattle.tht_tree.specs.Rules.Proofs.{prove, proves}
 
--- ---- proofs and gives
+-- what is known then, or what is refused first
+abbrev pub Outcome : Type 0
+Outcome = Result Context RuleRefusal
 
--- the proof proves that a equals b: `refl` where they are the same tree
-abbrev pub proves_equal : ProofKind → Term → Term → Bool
-proves_equal Refl a b = same_of a b
-proves_equal _ a b = false
+abbrev pub refused : Spot → RuleCode → Outcome
+refused spot code = Err (record { spot = spot; code = code })
 
--- the give proves the assertion, from no atom: `emp` the empty heap
-abbrev pub gives : GiveKind → Assn → Bool
-gives Emp a.Emp = true
-gives _ _ = false
-
--- ---- statements
-
--- goes on with the place and the value of a cell, and refuses where there is no such atom
-abbrev pub on_cell : Option Assn → (Term → Term → Option Context) → Option Context
-on_cell (Some (a.Own t u)) go = go t u
-on_cell _ go = None
-
--- the place of an atom's cell is the one that the command names, by a proof of a formula that is not too large
-abbrev pub is_at_place : ProofKind → Term → Term → Bool
-is_at_place p t place = formula_fits (term.Eq t place) && proves_equal p t place
+-- what is known then, where nothing is refused
+abbrev pub unless_refused : Option RuleRefusal → Outcome → Outcome
+unless_refused None known = known
+unless_refused (Some r) known = Err r
 
 -- what is known is not too large
-abbrev pub if_fits : Context → Option Context
-if_fits c = if context_fits c then Some c else None
+abbrev pub if_fits : Spot → Context → Outcome
+if_fits spot c = if context_fits c then Ok c else refused spot R10
 
--- reads the cell of atom i: x has its value, by the hypothesis h
-abbrev pub after_read : Names → Context → List ℕ → Sort → Term → ℕ → List ℕ → ProofKind → Option Context
-after_read roots c x r t i h p = on_cell (atom_at i c.atoms) (λ place value.
-    if is_of r (sort_of roots c.scope value) && is_at_place p t place && formula_fits (term.Eq (term.Var x) value)
-    then if_fits (record c {
-      scope = with_local (with_local c.scope x (Variable r)) h Hypothesis;
-      hyps = c.hyps ++ (record { name = h; formula = term.Eq (term.Var x) value }) ∷ [];
-    })
-    else None)
+-- goes on with the place and the value of the cell of an atom
+abbrev pub on_cell : Spot → Option Assn → (Term → Term → Outcome) → Outcome
+on_cell spot None go = refused spot R1
+on_cell spot (Some (a.Own t u)) go = go t u
+on_cell spot (Some _) go = refused spot R2
 
--- writes the cell of atom i, which then holds the value of u
-abbrev pub after_write : Context → Term → Term → ℕ → ProofKind → Option Context
-after_write c t u i p = on_cell (atom_at i c.atoms) (λ place value.
-    if is_at_place p t place && assn_fits (a.Own place u) then if_fits (record c { atoms = with_atom i (a.Own place u) c.atoms }) else None)
+module _ (known : Declared) (spot : Spot) (c : Context) where
+  -- the place that the command names is the atom's, by this proof
+  abbrev pub at_place : Proof → Term → Term → Option RuleRefusal
+  at_place p t place = proves spot (prove known p) c (term.Eq t place)
 
--- makes a cell, whose atom has the next number
-abbrev pub after_alloc : Context → List ℕ → Term → Option Context
-after_alloc c x t =
-    if assn_fits (a.Own (term.Var x) t)
-    then if_fits (record c {
-      scope = with_local c.scope x (Variable sort.Loc);
-      atoms = with_atom (c.made + 1) (a.Own (term.Var x) t) c.atoms;
-      made = c.made + 1;
-    })
-    else None
+  -- reads the cell of atom i: x has its value, by the hypothesis h
+  abbrev pub after_read : List ℕ → Sort → Term → ℕ → List ℕ → Proof → Outcome
+  after_read x r t i h p = on_cell spot (atom_at i c.atoms) (λ place value.
+      unless_refused (needs spot R2 (is_of r (sort_of known.roots c.scope value)) ▸ at_place p t place ▸ needs spot R10 (formula_fits (term.Eq (term.Var x) value)))
+      (if_fits spot (with_hyp (record c { scope = with_local c.scope x (Variable r) }) h (term.Eq (term.Var x) value))))
 
--- takes the cell of atom i away
-abbrev pub after_free : Context → Term → ℕ → ProofKind → Option Context
-after_free c t i p = on_cell (atom_at i c.atoms) (λ place value.
-    if is_at_place p t place then if_fits (record c { atoms = without_atom i c.atoms }) else None)
+  -- writes the cell of atom i, which then holds the value of u
+  abbrev pub after_write : Term → Term → ℕ → Proof → Outcome
+  after_write t u i p = on_cell spot (atom_at i c.atoms) (λ place value.
+      unless_refused (at_place p t place ▸ needs spot R10 (assn_fits (a.Own place u)))
+      (if_fits spot (record c { atoms = with_atom i (a.Own place u) c.atoms })))
 
--- what is known after a statement, where these are the roots
-abbrev pub after_stmt : Names → StmtKind → Context → Option Context
-after_stmt roots (s.Read x r t i h p) c = after_read roots c x r t i h p.kind
-after_stmt roots (s.Write t u i p) c = after_write c t u i p.kind
-after_stmt roots (s.Alloc x (t ∷ [])) c = after_alloc c x t
-after_stmt roots (s.Free t i p) c = after_free c t i p.kind
-after_stmt roots _ c = None
+  -- makes a cell, whose atom has the next number
+  abbrev pub after_alloc : List ℕ → Term → Outcome
+  after_alloc x t =
+      unless_refused (needs spot R10 (assn_fits (a.Own (term.Var x) t)))
+      (if_fits spot (record c {
+        scope = with_local c.scope x (Variable sort.Loc);
+        atoms = with_atom (c.made + 1) (a.Own (term.Var x) t) c.atoms;
+        made = c.made + 1;
+      }))
 
--- ---- bodies
+  -- takes the cell of atom i away
+  abbrev pub after_free : Term → ℕ → Proof → Outcome
+  after_free t i p = on_cell spot (atom_at i c.atoms) (λ place value.
+      unless_refused (at_place p t place) (if_fits spot (record c { atoms = without_atom i c.atoms })))
 
--- the end gives the postcondition, and no atom is left
-abbrev pub end_holds : EndKind → Assn → Context → Bool
-end_holds (e.Ret t g) post c = gives g.kind post && is_nil c.atoms
-end_holds _ post c = false
+  -- the formula is known under the name h
+  abbrev pub after_have : List ℕ → Term → Proof → Outcome
+  after_have h t p = unless_refused (proves spot (prove known p) c t) (if_fits spot (with_hyp c h t))
 
-abbrev pub on_context : Option Context → (Context → Bool) → Bool
-on_context None go = false
-on_context (Some c) go = go c
+  abbrev pub after_step : StepKind → Outcome
+  after_step (t.Have h u p) = after_have h u p
+  after_step _ = refused spot R5
 
-abbrev pub stmts_hold : Names → List Stmt → (Context → Bool) → Context → Bool
-stmts_hold roots [] last c = last c
-stmts_hold roots (s ∷ ss) last c = on_context (after_stmt roots s.kind c) (stmts_hold roots ss last)
-
--- the body meets this postcondition from what is known, where these are the roots
-abbrev pub holds : Names → Body → Assn → Context → Bool
-holds roots body post c = stmts_hold roots (stmts_of body) (end_holds (end_of body) post) c
+  -- what is known after a statement
+  abbrev pub after_stmt : StmtKind → Outcome
+  after_stmt (s.Read x r t i h p) = after_read x r t i h p
+  after_stmt (s.Write t u i p) = after_write t u i p
+  after_stmt (s.Alloc x (t ∷ [])) = after_alloc x t
+  after_stmt (s.Free t i p) = after_free t i p
+  after_stmt (s.Proof x) = after_step x.kind
+  after_stmt _ = refused spot R5

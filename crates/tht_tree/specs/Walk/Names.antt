@@ -69,10 +69,10 @@ new_params class scope (p ∷ ps) = first (new_name scope p.name) (new_params cl
 abbrev pub param_sorts : List Param → List Sort
 param_sorts = map (λ p. p.sort)
 
--- the parameters that have not this name, and the number, from 0, of the one that has it
+-- the parameters but for the one with this name, and its number, from 0; of several that have the name the first is meant
 abbrev pub other_params : List ℕ → List Param → List Param
 other_params x [] = []
-other_params x (p ∷ ps) = if bytes_eq x p.name then other_params x ps else p ∷ other_params x ps
+other_params x (p ∷ ps) = if bytes_eq x p.name then ps else p ∷ other_params x ps
 
 abbrev pub param_number : List ℕ → List Param → ℕ
 param_number x [] = 0

@@ -1,5 +1,5 @@
 -- The sorts of terms.
-use Rattle.std.specs.Prelude.{Bool, true, false, not, List, [], ◌∷◌, ◌++◌, map, ℕ, Option, Some, None, Result, Ok, Err, if◌then◌else◌}
+use Rattle.std.specs.Prelude.{Bool, true, false, not, ◌&&◌, List, [], ◌∷◌, ◌++◌, map, ℕ, Option, Some, None, Result, Ok, Err, if◌then◌else◌}
 use Rattle.tht_tree.specs.declared.walk.Found.{Found}
 use Rattle.tht_tree.specs.declared.walk.SortEnd.{SortEnd}
 use Rattle.tht_tree.specs.declared.walk.SortEnd.TheVariants.{Unknown, Clash, LogicOnly}
@@ -80,9 +80,10 @@ of_sort s [] = Ok s
 of_sort s (None ∷ ends) = of_sort s ends
 of_sort s (Some e ∷ ends) = Err e
 
+-- a sequence is of the logic alone, also where a variable of the program stands for it
 abbrev pub name_sort : Bool → List ℕ → Option Class → Result Sort SortEnd
 name_sort program x (Some Root) = Ok sort.Loc
-name_sort program x (Some (Program s)) = Ok s
+name_sort program x (Some (Program s)) = of_sort s (logic_only (program && same_sort s sort.Seq) ∷ [])
 name_sort program x (Some (Logic s)) = of_sort s (logic_only program ∷ [])
 name_sort program x _ = Err (Unknown x)
 
@@ -124,7 +125,7 @@ of_logic program = unless (not program) S2
 abbrev pub found_name : Bool → Option Class → Found
 found_name program None = record { code = Some N1; sort = None }
 found_name program (Some Root) = found_of sort.Loc None
-found_name program (Some (Program s)) = found_of s None
+found_name program (Some (Program s)) = found_of s (of_logic (program && same_sort s sort.Seq))
 found_name program (Some (Logic s)) = found_of s (of_logic program)
 found_name program (Some _) = record { code = Some N3; sort = None }
 

@@ -2,8 +2,8 @@ use Rattle.std.proofs.Common.{◌≡◌, ◌∙◌, ap, sym, map}
 use Rattle.tht_tree.specs.declared.body.Body.{out-Body}
 use Rattle.tht_tree.specs.Walk.Codes.{◌▸◌}
 use Rattle.tht_tree.specs.Walk.Bodies.{body, end, stmt, statements}
-use Rattle.name_walk.specs.Scopes.{scope_of}
-use Rattle.name_walk.proofs.Shadowing.{known_again}
+use Rattle.term_walk.specs.Scopes.{scope_of}
+use Rattle.term_walk.proofs.Shadowing.{known_again}
 use Rattle.name_walk.proofs.Statements.{parts_is}
 use Rattle.name_walk.proofs.bodies.+body.Goals as goal
 

@@ -3,7 +3,7 @@ use Rattle.tht_tree.specs.declared.body.Body.{size-Body}
 use Rattle.tht_tree.specs.declared.body.Stmt.{size-Stmt}
 use Rattle.tht_tree.specs.declared.body.End.{size-End}
 use Rattle.tht_tree.specs.Walk.Bodies.{InBody, statements, stmt}
-use Rattle.name_walk.specs.Scopes.{scope_of, unbound}
+use Rattle.term_walk.specs.Scopes.{scope_of, unbound}
 use Rattle.name_walk.proofs.bodies.+body.Given as goal
 
 abbrev pub invariant-walk_stmts-loop-stmt : goal.invariant-walk_stmts-loop-stmt

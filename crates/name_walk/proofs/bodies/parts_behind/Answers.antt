@@ -1,5 +1,5 @@
 use Rattle.std.proofs.Common.{refl}
-use Rattle.name_walk.proofs.Shadowing.{known_again}
+use Rattle.term_walk.proofs.Shadowing.{known_again}
 use Rattle.name_walk.proofs.bodies.parts_behind.Goals as goal
 
 pub returns-clause-same : goal.returns-clause-same

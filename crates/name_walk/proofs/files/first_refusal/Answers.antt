@@ -1,6 +1,6 @@
 use Rattle.std.proofs.Common.{◌∙◌, ap}
 use Rattle.tht_tree.specs.Walk.Decls.{after_decl}
-use Rattle.name_walk.specs.Scopes.{scope_of}
+use Rattle.term_walk.specs.Scopes.{scope_of}
 use Rattle.name_walk.specs.Known.{before_of}
 use Rattle.std.proofs.lemmas.Result.{IfOk-weaker}
 use Rattle.name_walk.proofs.Declared.{decl_refused, decl_passed, decls_over}

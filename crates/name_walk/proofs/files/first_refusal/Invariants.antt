@@ -1,7 +1,7 @@
 use Rattle.std.proofs.Common.{◌≡◌, drop}
 use Rattle.tht_tree.specs.Walk.Codes.{◌▸◌}
 use Rattle.tht_tree.specs.Walk.Files.{decls, main, after_decls, first_refusal}
-use Rattle.name_walk.specs.Scopes.{scope_of}
+use Rattle.term_walk.specs.Scopes.{scope_of}
 use Rattle.name_walk.specs.Known.{before_of}
 use Rattle.name_walk.proofs.files.first_refusal.Given as goal
 

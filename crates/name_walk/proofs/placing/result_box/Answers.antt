@@ -1,4 +1,4 @@
-use Rattle.name_walk.proofs.Shadowing.{known_again}
+use Rattle.term_walk.proofs.Shadowing.{known_again}
 use Rattle.name_walk.proofs.placing.result_box.Goals as goal
 
 pub returns-clause-same : goal.returns-clause-same

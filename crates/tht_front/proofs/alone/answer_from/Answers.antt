@@ -1,8 +1,12 @@
 use Rattle.std.proofs.Common.{◌≡◌, sym, ◌∙◌}
 use Rattle.tht_tree.specs.declared.command.Command.TheVariants.{Read}
 use Rattle.tht_grammar.proofs.Texts.{one_file}
-use Rattle.tht_front.proofs.Answering.{big, if_ok_then, not_taken, one_command, refused, spent}
+use Rattle.tht_front.proofs.Answering.{big, if_ok_then, not_taken, one_command, out_of_order, refused, spent}
 use Rattle.tht_front.proofs.alone.answer_from.Goals as goal
+
+pub returns-in-Some-Read-clause-names : goal.returns-in-Some-Read-clause-names
+returns-in-Some-Read-clause-names g c =
+    if_ok_then c.answer_from_file.result _ _ (λ answer said same. out_of_order _ _ answer.status answer.output.items said same) c.answer_from_file.ensures.answer
 
 pub returns-in-Some-Read-clause-rule : goal.returns-in-Some-Read-clause-rule
 returns-in-Some-Read-clause-rule g c =

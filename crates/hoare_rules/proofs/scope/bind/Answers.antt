@@ -1,6 +1,0 @@
-use Rattle.std.proofs.Common.{◌∙◌}
-use Rattle.hoare_rules.proofs.NewLocals.{locals_of-insert}
-use Rattle.hoare_rules.proofs.scope.bind.Goals as goal
-
-pub returns : goal.returns
-returns c = locals_of-insert c.in_ok-name.name c.args.scope.now c.insert.new.self c.args.name.now c.args.local c.in_ok-insert.ensures.updates (c.in_ok-name.ensures.ok ∙ c.as_str.ensures)

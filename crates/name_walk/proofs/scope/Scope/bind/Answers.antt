@@ -1,9 +1,0 @@
-use Rattle.std.proofs.Common.{◌≡◌}
-use Rattle.name_walk.specs.Scopes.{scope_of}
-use Rattle.name_walk.proofs.Shadowing.{after_insert}
-use Rattle.name_walk.proofs.scope.Scope.bind.Goals as goal
-
-pub returns-clause-bound : goal.returns-clause-bound
-unfolding scope_of
-returns-clause-bound c =
-    after_insert c.in_ok-key.key c.args.self.now.classes c.insert.new.self c.args.name.now c.args.class c.in_ok-shadowed.ensures.updates c.in_ok-key.ensures

@@ -1,9 +1,0 @@
-use Rattle.std.proofs.Common.{◌≡◌, subst}
-use Rattle.std.specs.BTreeMap.{UpdatesBy}
-use Rattle.name_walk.specs.Scopes.{scope_of}
-use Rattle.name_walk.proofs.Shadowing.{after_remove}
-use Rattle.name_walk.proofs.scope.Scope.remove.Goals as goal
-
-pub returns : goal.returns
-unfolding scope_of
-returns c = after_remove c.args.self.now.classes c.remove.new.self c.as_str.result.now c.args.name.now c.as_str.ensures c.remove.ensures.updates

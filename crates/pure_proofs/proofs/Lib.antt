@@ -1,0 +1,13 @@
+pub mod Sums
+pub mod Verdicts
+pub mod Maps
+pub mod Atoms
+pub mod Assumed
+pub mod Walks
+pub mod ReadRows
+pub mod RowLists
+pub mod Entries
+pub mod Assuming
+pub mod PutIn
+pub mod FirstPlaces
+pub mod Soundness

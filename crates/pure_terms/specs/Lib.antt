@@ -1,0 +1,9 @@
+pub mod Answers
+pub mod Making
+pub mod Turns
+pub mod Joining
+pub mod Locals
+pub mod Binary
+pub mod Sides
+pub mod Levels
+pub mod Readings

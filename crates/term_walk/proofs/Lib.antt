@@ -1,0 +1,5 @@
+pub mod Shadowing
+pub mod Gathered
+pub mod Fitting
+pub mod Entries
+pub mod ParamLists

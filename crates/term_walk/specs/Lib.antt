@@ -1,0 +1,3 @@
+pub mod Scopes
+pub mod Params
+pub mod Binding
