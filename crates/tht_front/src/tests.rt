@@ -1,4 +1,5 @@
 // The worked cases of the top call, over a source and a sink in memory.
+mod limits;
 mod names;
 mod rules;
 

@@ -35,6 +35,12 @@ const CONSTANTS: &[(u128, u128, bool, Result<i128, NormalEnd>)] = &[
     (0, MOST, true, Err(NormalEnd::Wide)),
 ];
 
+// The constant of a comparison's inequality.
+fn constant_read(alloc: Global, scope: &Scope, comparison: &Comparison) -> Result<i128, NormalEnd> {
+    let form = reading(alloc, scope, comparison)?;
+    Ok(coefficient(&[], form.as_slice()))
+}
+
 fn constant(alloc: Global, left: u128, right: u128, strict: bool) -> Result<i128, NormalEnd> {
     let scope = BTreeMap::new(alloc);
     let comparison = Comparison {
@@ -42,8 +48,7 @@ fn constant(alloc: Global, left: u128, right: u128, strict: bool) -> Result<i128
         right: Term::Num(right),
         strict,
     };
-    let form = reading(alloc, &scope, &comparison)?;
-    Ok(coefficient(&[], form.as_slice()))
+    constant_read(alloc, &scope, &comparison)
 }
 
 #[test]
@@ -151,13 +156,27 @@ fn comparison(alloc: Global) -> Result<Comparison, AllocError> {
     below(left, right)
 }
 
+fn reads_as(
+    alloc: Global,
+    scope: &Scope,
+    comparison: &Comparison,
+    want: Row,
+) -> Result<bool, NormalEnd> {
+    let form = reading(alloc, scope, comparison)?;
+    Ok(is_form(form.as_slice(), want))
+}
+
+fn comparison_reads_as(alloc: Global, scope: &Scope, want: Row) -> Result<bool, Fail> {
+    let comparison = comparison(alloc)?;
+    Ok(reads_as(alloc, scope, &comparison, want)?)
+}
+
 #[test]
 fn like_products_are_joined(rt: HostRuntime) -> Result<(), Fail> {
     let scope = numbers(rt.alloc(), &["x", "y"])?;
-    let comparison = comparison(rt.alloc())?;
-    let form = reading(rt.alloc(), &scope, &comparison)?;
     // 4 + x - y
-    assert!(rt; is_form(form.as_slice(), &[(4, &[]), (1, &["x"]), (-1, &["y"])]));
+    let want: Row = &[(4, &[]), (1, &["x"]), (-1, &["y"])];
+    assert!(rt; comparison_reads_as(rt.alloc(), &scope, want)?);
     Ok(())
 }
 
