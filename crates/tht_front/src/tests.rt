@@ -154,17 +154,27 @@ fn spaces_are_too_long(rt: HostRuntime) -> Result<(), Fail> {
     Ok(())
 }
 
-#[test]
-fn other_words_are_refused(rt: HostRuntime) -> Result<(), Fail> {
-    let alloc = rt.alloc();
-    let words = words_of(alloc, &["check"])?;
+// Words that no command has.
+const OTHER_WORDS: &[&[&str]] = &[
+    &[],
+    &["check"],
+    &["run", "--steps", "007"],
+    &["run", "--workers", "0"],
+];
+
+fn are_refused(alloc: Global, words: &[&str]) -> Result<bool, AllocError> {
+    let words = words_of(alloc, words)?;
     let mut source = MemSource::new(FIRST.to_vec(alloc)?, [1].to_vec(alloc)?);
     let mut sink = MemSink::new(alloc, 100, Vec::new(alloc)).map_err(no_memory)?;
-    assert_eq!(rt;
-        tht_alone(alloc, &words, &mut source, &mut sink),
-        Status::Words
-    );
-    assert_eq!(rt; sink.bytes(), b"words\n".as_slice());
+    let ended = tht_alone(alloc, &words, &mut source, &mut sink);
+    Ok(ended == Status::Words && sink.bytes() == b"words\n".as_slice())
+}
+
+#[test]
+fn other_words_are_refused(rt: HostRuntime) -> Result<(), Fail> {
+    for words in OTHER_WORDS {
+        assert!(rt; are_refused(rt.alloc(), *words)?);
+    }
     Ok(())
 }
 

@@ -237,3 +237,32 @@ fn proofs_are_refused_at_their_places(rt: HostRuntime) -> Result<(), Fail> {
     }
     Ok(())
 }
+
+// The place z was read from a cell, and is that of atom 1: by its hypothesis, and not as a tree.
+const READ_PLACE: &str =
+    "tht 1\nmain r : nat { emp } {\n  x <- alloc (7);\n  y <- alloc (x);\n  z : loc <- read y at 2 as h by refl;\n  a : nat <- read z at 1 as k by ";
+
+const PLACE_READ: &str = ";\n  free x at 1 by refl;\n  free y at 2 by refl;\n  ret a by emp\n}\n";
+
+const SEVEN: &str = "end done\nresult 7\nevents 6\ncost 6\naborts 0\norder\n0*6\n";
+
+fn place_is_read_so(
+    alloc: Global,
+    proof: &str,
+    status: Status,
+    output: &str,
+) -> Result<bool, AllocError> {
+    let mut source = String::new(alloc);
+    source.push_str(READ_PLACE)?;
+    source.push_str(proof)?;
+    source.push_str(PLACE_READ)?;
+    runs_so(alloc, source.as_str(), status, output)
+}
+
+#[test]
+fn a_place_that_was_read_is_proved(rt: HostRuntime) -> Result<(), Fail> {
+    let alloc = rt.alloc();
+    assert!(rt; place_is_read_so(alloc, "hyp h", Status::Done, SEVEN)?);
+    assert!(rt; place_is_read_so(alloc, "refl", Status::Rule, "rule 6:34 R5\n")?);
+    Ok(())
+}
