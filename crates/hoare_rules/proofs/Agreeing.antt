@@ -1,10 +1,9 @@
 -- What is refused of a cell that a command names, and of the command.
-use Rattle.std.proofs.Common.{◌≡◌, ℕ, Bool, true, false, ◌&&◌, List, [], Option, Some, None, Result, Ok, Err, refl, sym, ◌∙◌, ap, subst, cond}
+use Rattle.std.proofs.Common.{◌≡◌, ℕ, Bool, true, false, ◌&&◌, List, [], Option, Some, None, Result, Ok, Err, refl, sym, ◌∙◌, ap, subst}
 use Rattle.std.specs.Prelude.{OnOk}
 use Rattle.tht_tree.specs.declared.assn.Assn.TheVariants as a
 use Rattle.tht_tree.specs.declared.plain.Sort.{Sort}
 use Rattle.tht_tree.specs.declared.plain.Spot.{Spot}
-use Rattle.tht_tree.specs.declared.proof.Proof.{Proof}
 use Rattle.tht_tree.specs.declared.rule.RuleCode.TheVariants.{R2, R10}
 use Rattle.tht_tree.specs.declared.rule.RuleRefusal.{RuleRefusal}
 use Rattle.tht_tree.specs.declared.state.Hyp.{Hyp}
@@ -16,15 +15,17 @@ use Rattle.tht_tree.specs.Rules.Context.{Context, with_local, atom_at, context_f
 use Rattle.tht_tree.specs.Rules.Scoping.{is_of, sort_of}
 use Rattle.tht_tree.specs.Rules.Refusals.{needs, ◌▸◌}
 use Rattle.tht_tree.specs.Rules.Known.{with_hyp, hyp_fits}
-use Rattle.tht_tree.specs.Rules.Proofs.{prove, proves}
-use Rattle.tht_tree.specs.Rules.Commands.{Outcome, refused, unless_refused, if_fits, on_cell, at_place, after_read, after_write, after_free, after_have}
+use Rattle.tht_tree.specs.Rules.Proofs.{prove}
+use Rattle.tht_logic.specs.Rules.Checking.{Checked, reject, unless_refused, if_fits}
+use Rattle.tht_logic.specs.Rules.Commands.{on_cell, needs_place, after_read, after_write, after_free}
 use Rattle.pure_proofs.specs.declared.refusal.Refusal.{Refusal}
 use Rattle.pure_proofs.specs.declared.refusal.Refusal.TheVariants.{Rule, Memory}
 use Rattle.pure_proofs.specs.Verdicts.{IsStop}
 use Rattle.hoare_rules.specs.declared.cells.NamedCell.{NamedCell}
 use Rattle.hoare_rules.specs.Atoms.{NoCell}
 use Rattle.hoare_rules.specs.Made.{IsMade}
-use Rattle.hoare_rules.specs.Cells.{undeclared, Refuses, Says, value_refused, cell_refused, Stops, IsNamed, Agrees, IsGoal, MakesGoal}
+use Rattle.heap_rules.specs.Following.{Refuses}
+use Rattle.hoare_rules.specs.Cells.{undeclared, Says, value_refused, cell_refused, Stops, IsNamed, Agrees, IsGoal, MakesGoal}
 use Rattle.hoare_rules.specs.Steps.{read_context, write_context, free_context, learnt, written, freed}
 
 abbrev Found : Type 0
@@ -78,12 +79,12 @@ module _ (n : NamedCell) (wanted : Option Sort) (c : Context) where
     stops_at r g = λ go h. ap (λ x. on_cell n.spot x go) at ∙ h place value r g
 
     pub sort_stops : (e : Refusal) → IsStop e sorted → Stops e n wanted c
-    sort_stops (Rule r) g = stops_at r (first_stops sorted (at_place undeclared n.spot c n.proof.now n.place.now place) r g)
+    sort_stops (Rule r) g = stops_at r (first_stops sorted (needs_place undeclared n.spot c n.proof.now n.place.now place) r g)
     sort_stops Memory g = tt
 
     pub goal_made : (result : Result Term Refusal) → sorted ≡ None → IsMade result n.spot (goal_for place) → MakesGoal result n wanted c
     goal_made (Ok t) s h = record { place = place; value = value; at = at; sorted = s; fits = h.1; is = h.0 }
-    goal_made (Err (Rule r)) s h = stops_at r (then_stops sorted (at_place undeclared n.spot c n.proof.now n.place.now place) r s
+    goal_made (Err (Rule r)) s h = stops_at r (then_stops sorted (needs_place undeclared n.spot c n.proof.now n.place.now place) r s
         (first_stops (needs n.spot R10 (formula_fits (goal_for place))) (prove undeclared n.proof.now c (goal_for place)) r h))
     goal_made (Err Memory) s h = tt
 
@@ -100,14 +101,14 @@ module _ (n : NamedCell) (wanted : Option Sort) (c : Context) where
       place = made.place;
       value = made.value;
       at = made.at;
-      accepted = both_pass (value_refused n.spot c.scope wanted made.value) (at_place undeclared n.spot c n.proof.now n.place.now made.place) made.sorted
+      accepted = both_pass (value_refused n.spot c.scope wanted made.value) (needs_place undeclared n.spot c n.proof.now n.place.now made.place) made.sorted
           (both_pass (needs n.spot R10 (formula_fits (goal_for made.place))) (prove undeclared n.proof.now c (goal_for made.place))
           (needs_none n.spot (formula_fits (goal_for made.place)) made.fits) (same_proof ∙ e));
     }
 
     not_proved : (r : RuleRefusal) → proof_said ≡ Some r → Stops (Rule r) n wanted c
     not_proved r e = stops_at made.place made.value made.at r
-        (then_stops (value_refused n.spot c.scope wanted made.value) (at_place undeclared n.spot c n.proof.now n.place.now made.place) r made.sorted
+        (then_stops (value_refused n.spot c.scope wanted made.value) (needs_place undeclared n.spot c n.proof.now n.place.now made.place) r made.sorted
         (then_stops (needs n.spot R10 (formula_fits (goal_for made.place))) (prove undeclared n.proof.now c (goal_for made.place)) r
         (needs_none n.spot (formula_fits (goal_for made.place)) made.fits) (same_proof ∙ e)))
 
@@ -118,17 +119,17 @@ module _ (n : NamedCell) (wanted : Option Sort) (c : Context) where
 
 -- ---- the rules, once their cell is named
 
-abbrev reading : Spot → Context → List ℕ → Sort → List ℕ → Found → Term → Outcome
+abbrev reading : Spot → Context → List ℕ → Sort → List ℕ → Found → Term → Checked Context
 reading spot c x r h first value =
     unless_refused (first ▸ needs spot R10 (formula_fits (term.Eq (term.Var x) value))) (if_fits spot (read_context c x r h value))
 
 module _ (n : NamedCell) (c : Context) where
   abbrev at_its_place : Term → Found
-  at_its_place = at_place undeclared n.spot c n.proof.now n.place.now
+  at_its_place = needs_place undeclared n.spot c n.proof.now n.place.now
 
   -- reads
   module _ (x : List ℕ) (r : Sort) (h : List ℕ) where
-    abbrev after : Outcome
+    abbrev after : Checked Context
     after = after_read undeclared n.spot c x r n.place.now n.number h n.proof.now
 
     abbrev added : Term → Found
@@ -150,7 +151,7 @@ module _ (n : NamedCell) (c : Context) where
 
   -- writes
   module _ (u : Term) where
-    abbrev written_so : Outcome
+    abbrev written_so : Checked Context
     written_so = after_write undeclared n.spot c n.place.now u n.number n.proof.now
 
     abbrev held : Term → Found
@@ -168,7 +169,7 @@ module _ (n : NamedCell) (c : Context) where
         ∙ sym (ap (λ o. on_cell n.spot o (λ place value. unless_refused (held place) (if_fits n.spot (write_context c n.number place u)))) named.at)
 
   -- frees
-  abbrev freed_so : Outcome
+  abbrev freed_so : Checked Context
   freed_so = after_free undeclared n.spot c n.place.now n.number n.proof.now
 
   pub free_stops : (e : Refusal) → Stops e n None c → Refuses e freed_so
@@ -183,18 +184,18 @@ module _ (n : NamedCell) (c : Context) where
       ∙ sym (ap (λ o. on_cell n.spot o (λ place value. if_fits n.spot (free_context c n.number))) named.at)
 
 -- what is said of another context, or another outcome, is said of its equal
-pub says_of : {A : Type 0} (result : Result A Refusal) (said real : Outcome) (now : Context) → said ≡ real → Says result said now → Says result real now
+pub says_of : {A : Type 0} (result : Result A Refusal) (said real : Checked Context) (now : Context) → said ≡ real → Says result said now → Says result real now
 says_of result said real now e h = subst (λ z. Says result z now) e h
 
-pub refuses_memory : (e : Refusal) (said : Outcome) → e ≡ Memory → Refuses e said
+pub refuses_memory : (e : Refusal) (said : Checked Context) → e ≡ Memory → Refuses e said
 refuses_memory e said is = subst (λ z. Refuses z said) (sym is) tt
 
-pub no_cell_refuses : (e : Refusal) (spot : Spot) (o : Option _) (go : Term → Term → Outcome) → NoCell e spot o → Refuses e (on_cell spot o go)
+pub no_cell_refuses : (e : Refusal) (spot : Spot) (o : Option _) (go : Term → Term → Checked Context) → NoCell e spot o → Refuses e (on_cell spot o go)
 no_cell_refuses (Rule r) spot o go h = h go
 no_cell_refuses Memory spot o go h = absurd h
 
 -- what is too large is refused
-pub refuses_large : (e : Refusal) (spot : Spot) (said : Outcome) → e ≡ Rule (record { spot = spot; code = R10 }) → said ≡ refused spot R10 → Refuses e said
+pub refuses_large : (e : Refusal) (spot : Spot) (said : Checked Context) → e ≡ Rule (record { spot = spot; code = R10 }) → said ≡ reject spot R10 → Refuses e said
 refuses_large e spot said is same = subst (λ z. Refuses z said) (sym is) same
 
 -- the rules at a cell that is there
@@ -208,8 +209,8 @@ module _ (spot : Spot) (c : Context) (i : ℕ) (place value : Term) (at : atom_a
 -- ---- a hypothesis that is added
 
 module _ (spot : Spot) (d : Context) where
-  abbrev tested : Bool → Bool → Outcome
-  tested f g = unless_refused (needs spot R10 f) (cond g (Ok d) (refused spot R10))
+  abbrev tested : Bool → Bool → Checked Context
+  tested f g = unless_refused (needs spot R10 f) (unless_refused (needs spot R10 g) (Ok d))
 
   fits_both : (f g : Bool) → needs spot R10 (f && g) ≡ None → tested f g ≡ Ok d
   fits_both true true e = refl
@@ -220,11 +221,11 @@ module _ (spot : Spot) (d : Context) where
   fails_one true true r e = cc
   fails_one true false r e = failed e
     where
-      failed : needs spot R10 false ≡ Some r → refused spot R10 ≡ Err r
+      failed : needs spot R10 false ≡ Some r → unless_refused (needs spot R10 false) (Ok d) ≡ Err r
       failed e = cc
   fails_one false g r e = failed e
     where
-      failed : needs spot R10 false ≡ Some r → refused spot R10 ≡ Err r
+      failed : needs spot R10 false ≡ Some r → unless_refused (needs spot R10 false) (Ok d) ≡ Err r
       failed e = cc
 
 module _ (spot : Spot) (c : Context) (i : ℕ) (x : List ℕ) (r : Sort) (h : List ℕ) (place value : Term) (at : atom_at i c.atoms ≡ Some (a.Own place value)) where
@@ -250,30 +251,3 @@ module _ (spot : Spot) (c : Context) (i : ℕ) (x : List ℕ) (r : Sort) (h : Li
   learnt_by mid g e f now fits is =
       learnt_ok now (subst (λ m. needs spot R10 (hyp_fits m h equal) ≡ None) e (subst (λ q. needs spot R10 (hyp_fits mid q.name q.formula) ≡ None) f fits))
       (subst (λ m. now ≡ with_hyp m h equal) e (subst (λ q. now ≡ with_hyp mid q.name q.formula) f is))
-
-module _ (spot : Spot) (c : Context) (h : List ℕ) (t : Term) (p : Proof) where
-  abbrev had : Outcome
-  had = after_have undeclared spot c h t p
-
-  pub have_stops : (e : Refusal) → IsStop e (proves spot (prove undeclared p) c t) → Refuses e had
-  have_stops (Rule q) g = ap (λ z. unless_refused z (if_fits spot (with_hyp c h t))) g
-  have_stops Memory g = tt
-
-  module _ (proved : proves spot (prove undeclared p) c t ≡ None) where
-    -- a formula that was proved is not too large
-    small : formula_fits t ≡ true
-    small = first_passes (formula_fits t) (prove undeclared p c t) proved
-      where
-        first_passes : (b : Bool) (z : Found) → (needs spot R10 b ▸ z) ≡ None → b ≡ true
-        first_passes true z e = refl
-        first_passes false z e = cc
-
-    had_at : had ≡ tested spot (with_hyp c h t) (formula_fits t) (context_fits (with_hyp c h t))
-    had_at = ap (λ z. unless_refused z (if_fits spot (with_hyp c h t))) (proved ∙ sym (needs_none spot (formula_fits t) small))
-
-    pub have_ok : (now : Context) → needs spot R10 (hyp_fits c h t) ≡ None → now ≡ with_hyp c h t → had ≡ Ok now
-    have_ok now e f = had_at ∙ fits_both spot (with_hyp c h t) (formula_fits t) (context_fits (with_hyp c h t)) e ∙ ap Ok (sym f)
-
-    pub have_err : (e : Refusal) → IsStop e (needs spot R10 (hyp_fits c h t)) → Refuses e had
-    have_err (Rule q) g = had_at ∙ fails_one spot (with_hyp c h t) (formula_fits t) (context_fits (with_hyp c h t)) q g
-    have_err Memory g = tt

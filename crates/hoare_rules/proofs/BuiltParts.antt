@@ -1,9 +1,19 @@
--- Which proofs are built.
+-- Which proofs, gives and assertions are built.
 use Rattle.std.proofs.Common.{◌≡◌, refl}
+use Rattle.tht_tree.specs.declared.assn.Assn.{Assn}
+use Rattle.tht_tree.specs.declared.give.Give.{Give}
 use Rattle.tht_tree.specs.declared.proof.Proof.{Proof}
-use Rattle.tht_tree.specs.Built.{proof}
-use Rattle.hoare_rules.specs.BuiltProofs.{proof_built}
+use Rattle.tht_logic.specs.Built.{proof, give, assn}
+use Rattle.hoare_rules.specs.BuiltParts.{proof_built, give_built, assn_built}
 
-pub built_is : (x : Proof) → proof x ≡ proof_built x
+pub proof_is : (x : Proof) → proof x ≡ proof_built x
 unfolding proof
-built_is x = refl
+proof_is x = refl
+
+pub give_is : (x : Give) → give x ≡ give_built x
+unfolding give
+give_is x = refl
+
+pub assn_is : (x : Assn) → assn x ≡ assn_built x
+unfolding assn
+assn_is x = refl

@@ -12,7 +12,9 @@ use Rattle.tht_tree.specs.Rules.Context.{Context, Scope, atom_at}
 use Rattle.tht_tree.specs.Rules.Scoping.{is_of, sort_of}
 use Rattle.tht_tree.specs.Rules.Refusals.{needs, ◌▸◌}
 use Rattle.tht_tree.specs.Rules.Known.{Declared}
-use Rattle.tht_tree.specs.Rules.Commands.{Outcome, on_cell, at_place}
+use Rattle.tht_logic.specs.Rules.Checking.{Checked}
+use Rattle.tht_logic.specs.Rules.Commands.{on_cell, needs_place}
+use Rattle.heap_rules.specs.Following.{Refuses}
 use Rattle.pure_proofs.specs.declared.refusal.Refusal.{Refusal}
 use Rattle.pure_proofs.specs.declared.refusal.Refusal.TheVariants.{Rule, Memory}
 use Rattle.pure_proofs.specs.Verdicts.{without_lemmas}
@@ -24,13 +26,8 @@ undeclared = without_lemmas []
 
 -- ---- answers
 
--- refused as the rules refuse, or want of memory
-abbrev pub Refuses : Refusal → Outcome → Type 0
-Refuses (Rule r) said = said ≡ Err r
-Refuses Memory said = ⊤
-
 -- what is known then is what the rules say, or they refuse
-abbrev pub Says : {A : Type 0} → Result A Refusal → Outcome → Context → Type 0
+abbrev pub Says : {A : Type 0} → Result A Refusal → Checked Context → Context → Type 0
 Says (Ok x) said now = said ≡ Ok now
 Says (Err e) said now = Refuses e said
 
@@ -43,12 +40,12 @@ value_refused spot scope (Some r) value = needs spot R2 (is_of r (sort_of [] sco
 
 -- what is refused of a cell with this place and value, where a command names it so, and this sort may be wanted
 abbrev pub cell_refused : NamedCell → Option Sort → Context → Term → Term → Option RuleRefusal
-cell_refused n wanted c place value = value_refused n.spot c.scope wanted value ▸ at_place undeclared n.spot c n.proof.now n.place.now place
+cell_refused n wanted c place value = value_refused n.spot c.scope wanted value ▸ needs_place undeclared n.spot c n.proof.now n.place.now place
 
 -- whatever goes on with the cell, and refuses what is refused of the cell, answers this refusal
 abbrev pub StopsWith : NamedCell → Option Sort → Context → RuleRefusal → Type 0
 StopsWith n wanted c r =
-    (go : Term → Term → Outcome)
+    (go : Term → Term → Checked Context)
     → ((place value : Term) (q : RuleRefusal) → cell_refused n wanted c place value ≡ Some q → go place value ≡ Err q)
     → on_cell n.spot (atom_at n.number c.atoms) go ≡ Err r
 

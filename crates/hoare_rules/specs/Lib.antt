@@ -1,7 +1,5 @@
 pub mod Atoms
-pub mod Names
 pub mod Made
-pub mod Cells
 pub mod Steps
-pub mod BuiltProofs
-pub mod Laws
+pub mod Cells
+pub mod BuiltParts

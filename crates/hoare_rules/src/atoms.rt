@@ -1,26 +1,35 @@
 // The atoms of a state: one found by its number, changed, added and taken away.
-ghost use Rattle.std.specs.Prelude.{◌≡◌, ◌<◌, ◌≤◌, ◌^◌, All, Some, OnOk, OnErr, OnSome, IfErr};
+ghost use Rattle.std.specs.Prelude.{◌≡◌, ◌<◌, ◌≤◌, ◌^◌, All, Some, OnOk, OnSome};
+ghost use Rattle.std.specs.List.Sorted.{IsStrictlySortedBy};
+ghost use Rattle.std.specs.Map.{keys_of};
 ghost use Rattle.std.specs.Option.{option_copied};
+ghost use Rattle.std.specs.Ordering.{nat_cmp};
 ghost use Rattle.tht_tree.specs.declared.assn.Assn.TheVariants.{Own};
 ghost use Rattle.tht_tree.specs.declared.term.Term.{Term};
-ghost use Rattle.tht_tree.specs.declared.term.Term.TheVariants.{Var};
 ghost use Rattle.tht_tree.specs.Rules.Context.{atom_at, with_atom, without_atom};
 ghost use Rattle.hoare_rules.specs.Atoms.{FindsCell};
 
+use heap_rules::refused;
 use pure_proofs::Refusal;
 use sqlite_items::Boxed;
-use std::alloc::Global;
 use std::collections::BTreeMap;
 use std::mem;
 use tht_tree::assn::Assn;
-use tht_tree::plain::{Name, Spot};
-use tht_tree::rule::{RuleCode, RuleRefusal};
+use tht_tree::plain::Spot;
+use tht_tree::rule::RuleCode;
 use tht_tree::term::Term;
 
 /// The atoms by their numbers.
 pub(crate) type Atoms = BTreeMap<u32, Assn>;
 
-/// The atom with this number, where none has a number above those made.
+/// The numbers of the atoms ascend, as in every map.
+pub(crate) fn ascend(atoms: &Atoms)
+    ensures { IsStrictlySortedBy nat_cmp (keys_of atoms.now.entries) }
+{
+    let _count = atoms.len();
+}
+
+// The atom with this number, where none has a number above those made.
 fn find(atoms: &Atoms, made: u32, number: u64) -> Option<&Assn>
     requires { All (λ a. a.0 ≤ made) atoms.now.entries }
     ensures atom { option_copied result ≡ atom_at number atoms.now.entries }
@@ -38,13 +47,6 @@ fn find(atoms: &Atoms, made: u32, number: u64) -> Option<&Assn>
 pub(crate) struct Cell<'a> {
     pub place: &'a Term,
     pub value: &'a Term,
-}
-
-/// The rules refuse the construct at this spot.
-pub(crate) fn refused(spot: Spot, code: RuleCode) -> Refusal
-    ensures { result ≡ Refusal.Rule (record { spot = spot; code = code }) }
-{
-    Refusal::Rule(RuleRefusal { spot, code })
 }
 
 /// The cell of the atom with this number, where none has a number above those made. The construct at the spot is refused
@@ -104,22 +106,4 @@ fn set_value(atom: &mut Assn, value: Boxed<Term>)
 
 fn forget_term(term: Boxed<Term>) {
     let _ = term;
-}
-
-/// Adds the atom of a cell at the place that this name stands for.
-pub(crate) fn add_cell(
-    alloc: Global,
-    atoms: &mut Atoms,
-    number: u32,
-    name: &Name,
-    value: &Term,
-) -> Result<(), Refusal>
-    ensures ok { OnOk result (atoms.new.entries ≡ with_atom number (Own (Var name.now) value.now) atoms.old.entries) }
-    ensures err { OnErr result (atoms.new.entries ≡ atoms.old.entries) }
-    ensures memory { IfErr result (λ e. e ≡ Refusal.Memory) }
-{
-    let value = Boxed::new(alloc, value.copy(alloc)?)?;
-    let place = Boxed::new(alloc, Term::Var(name.copy()?))?;
-    atoms.insert(number, Assn::Own(place, value))?;
-    Ok(())
 }

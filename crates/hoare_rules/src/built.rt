@@ -1,24 +1,78 @@
 // Which files are built.
-ghost use Rattle.std.specs.Prelude.{◌≡◌, ℕ, List, map};
+ghost use Rattle.std.specs.Prelude.{◌≡◌};
 ghost use Rattle.std.specs.List.{list_all};
-ghost use Rattle.tht_tree.specs.Built.{is_built as built_file, body as built_body, stmt as built_stmt, step as built_step, end as built_end, assn as built_assn, give as built_give, proof as built_proof};
-ghost use Rattle.hoare_rules.specs.BuiltProofs.{proof_built, kind_built, entry_built};
+ghost use Rattle.tht_logic.specs.Built.{is_built as built_file, decl as built_decl, body as built_body, stmt as built_stmt, step as built_step, end as built_end, assn as built_assn};
+ghost use Rattle.hoare_rules.specs.BuiltParts.{assn_built};
 
-use self::ProofKind as Kind;
-use sqlite_items::{Boxed, Items};
+use crate::built_proofs::{is_built_give, is_built_proof};
+use sqlite_items::Boxed;
 use tht_tree::assn::Assn;
-use tht_tree::body::{Body, Cells, EndKind, Stmt, StmtKind};
+use tht_tree::body::{Body, EndKind, Stmt, StmtKind};
+use tht_tree::decl::{Access, Decl, DeclKind};
 use tht_tree::file::Source1;
-use tht_tree::give::GiveKind;
-use tht_tree::proof::{LinEntry, Proof, ProofKind};
 use tht_tree::step::StepKind;
 
-/// Whether every form of the file is built.
+/// Whether every form of the file is built. It takes time in proportion to the size of the file.
 pub fn is_built(file: &Source1) -> bool
     ensures { result ≡ built_file file.now }
 {
-    file.decls.is_empty() && assn_is_built(&file.main.post) && body_is_built(file.main.body.get())
+    decls_are_built(file.decls.as_slice())
+        && is_built_assn(&file.main.post)
+        && body_is_built(file.main.body.get())
 }
+
+// ---- declarations
+
+fn decls_are_built(decls: &[Decl]) -> bool
+    ensures { result ≡ list_all (λ x. built_decl x.kind) decls.now }
+{
+    for decl in decls {
+        if !decl_is_built(&decl.kind) {
+            return false;
+        }
+    }
+    true
+}
+
+fn decl_is_built(decl: &DeclKind) -> bool
+    ensures { result ≡ built_decl decl.now }
+{
+    match decl {
+        DeclKind::Pred(Access::Private, _, _, assn) => is_built_assn(assn),
+        _ => false,
+    }
+}
+
+// ---- assertions
+
+#[tactic(auto, using(crate::proofs::BuiltParts::assn_is))]
+fn is_built_assn(assn: &Assn) -> bool
+    ensures { result ≡ built_assn assn.now }
+{
+    assn_is_built(assn)
+}
+
+#[cycle(built_assn)]
+fn assn_is_built(assn: &Assn) -> bool
+    ensures { result ≡ assn_built assn.now }
+{
+    match assn {
+        Assn::Shared(_, _) => false,
+        Assn::Star(p, q) => part_is_built(p) && part_is_built(q),
+        Assn::Exists(_, _, p) => part_is_built(p),
+        Assn::Either(p, q) => part_is_built(p) && part_is_built(q),
+        _ => true,
+    }
+}
+
+#[cycle(built_assn)]
+fn part_is_built(assn: &Boxed<Assn>) -> bool
+    ensures { result ≡ assn_built assn.now }
+{
+    assn_is_built(assn.get())
+}
+
+// ---- bodies
 
 fn body_is_built(body: &Body) -> bool
     ensures { result ≡ built_body body.now }
@@ -43,18 +97,11 @@ fn stmt_is_built(stmt: &StmtKind) -> bool
     match stmt {
         StmtKind::Read(_, _, _, _, _, proof) => is_built_proof(proof),
         StmtKind::Write(_, _, _, proof) => is_built_proof(proof),
-        StmtKind::Alloc(_, cells) => are_built(cells),
+        StmtKind::Alloc(_, _) => true,
         StmtKind::Free(_, _, proof) => is_built_proof(proof),
         StmtKind::Proof(step) => step_is_built(&step.kind),
         _ => false,
     }
-}
-
-// Whether an alloc of these cells is built: it makes one cell so far.
-fn are_built(cells: &Cells) -> bool
-    ensures { (x : List ℕ) → result ≡ built_stmt (StmtKind.Alloc x cells.now) }
-{
-    cells.as_slice().len() == 1
 }
 
 fn step_is_built(step: &StepKind) -> bool
@@ -62,7 +109,10 @@ fn step_is_built(step: &StepKind) -> bool
 {
     match step {
         StepKind::Have(_, _, proof) => is_built_proof(proof),
-        _ => false,
+        StepKind::Fold(_, _, give) => is_built_give(give),
+        StepKind::Rewrite(_, _, _, proof) => is_built_proof(proof),
+        StepKind::Use(_, _, _) => false,
+        _ => true,
     }
 }
 
@@ -70,90 +120,7 @@ fn end_is_built(end: &EndKind) -> bool
     ensures { result ≡ built_end end.now }
 {
     match end {
-        EndKind::Ret(_, give) => give_is_built(&give.kind),
+        EndKind::Ret(_, give) => is_built_give(give),
         _ => false,
     }
-}
-
-fn give_is_built(give: &GiveKind) -> bool
-    ensures { result ≡ built_give give.now }
-{
-    matches!(give, GiveKind::Emp)
-}
-
-fn assn_is_built(assn: &Assn) -> bool
-    ensures { result ≡ built_assn assn.now }
-{
-    matches!(assn, Assn::Emp)
-}
-
-// ---- proofs
-
-#[tactic(auto, using(crate::proofs::BuiltParts::built_is))]
-fn is_built_proof(proof: &Proof) -> bool
-    ensures { result ≡ built_proof proof.now }
-{
-    proof_is_built(proof)
-}
-
-#[cycle(built)]
-fn proof_is_built(proof: &Proof) -> bool
-    ensures { result ≡ proof_built proof.now }
-{
-    kind_is_built(&proof.kind)
-}
-
-#[cycle(built)]
-fn part(proof: &Boxed<Proof>) -> bool
-    ensures { result ≡ proof_built proof.now }
-{
-    proof_is_built(proof.get())
-}
-
-#[cycle(built)]
-fn kind_is_built(kind: &ProofKind) -> bool
-    ensures { result ≡ kind_built kind.now }
-{
-    match kind {
-        Kind::Recast(_, q) => part(q),
-        Kind::Sym(q) => part(q),
-        Kind::Both(q, r) => part(q) && part(r),
-        Kind::Subst(_, _, _, _, _, q, r) => part(q) && part(r),
-        Kind::Pair(q, r) => part(q) && part(r),
-        Kind::Fst(_, q) => part(q),
-        Kind::Snd(_, q) => part(q),
-        Kind::Inl(q) => part(q),
-        Kind::Inr(q) => part(q),
-        Kind::Cases(_, q, _, r, _, u) => part(q) && part(r) && part(u),
-        Kind::Fun(_, q) => part(q),
-        Kind::App(_, q, r) => part(q) && part(r),
-        Kind::Neg(_, q, r) => part(q) && part(r),
-        Kind::Absurd(q) => part(q),
-        Kind::Em(_, _, q, _, r) => part(q) && part(r),
-        Kind::Lin(_, entries) => entries_are_built(entries),
-        Kind::Monus(q) => part(q),
-        Kind::Head(_, _, q) => part(q),
-        Kind::Tail(_, _, q) => part(q),
-        Kind::Lemma(..) => false,
-        _ => true,
-    }
-}
-
-#[cycle(built)]
-fn entries_are_built(entries: &Items<LinEntry>) -> bool
-    ensures { result ≡ list_all (λ e. e) (map entry_built entries.now) }
-{
-    for entry in entries.as_slice() {
-        if !entry_is_built(entry) {
-            return false;
-        }
-    }
-    true
-}
-
-#[cycle(built)]
-fn entry_is_built(entry: &LinEntry) -> bool
-    ensures { result ≡ entry_built entry.now }
-{
-    part(&entry.proof)
 }

@@ -7,8 +7,8 @@ ghost use Rattle.pure_proofs.specs.Verdicts.{IsVerdict};
 ghost use Rattle.hoare_rules.specs.Cells.{Agrees, MakesGoal, value_refused};
 ghost use Rattle.hoare_rules.specs.Made.{IsMade};
 
-use crate::atoms::{cell_at, refused};
-use crate::sizes::pair_fits;
+use crate::atoms::cell_at;
+use heap_rules::{pair_fits, refused};
 use pure_proofs::{Known, Refusal, prove};
 use pure_terms::{Scope, sort_in};
 use sqlite_items::Boxed;

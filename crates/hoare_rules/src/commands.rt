@@ -1,40 +1,50 @@
 // The rules of statements, over what is known.
-ghost use Rattle.std.specs.Prelude.{◌≡◌, ◌∷◌, [], IfOk, IfErr};
+ghost use Rattle.std.specs.Prelude.{◌≡◌, [], IfOk, IfErr};
 ghost use Rattle.tht_tree.specs.declared.term.Term.TheVariants.{Eq, Var};
 ghost use Rattle.tht_tree.specs.Rules.Context.{context_of};
-ghost use Rattle.tht_tree.specs.Rules.Proofs.{prove as said_of, proves};
-ghost use Rattle.tht_tree.specs.Rules.Commands.{after_stmt, after_read, after_write, after_alloc, after_free, after_have, after_step};
-ghost use Rattle.pure_proofs.specs.Verdicts.{IsVerdict};
+ghost use Rattle.tht_logic.specs.Rules.Commands.{after_stmt, after_read, after_write, after_free};
+ghost use Rattle.heap_rules.specs.Declarations.{declared_by};
 ghost use Rattle.hoare_rules.specs.Cells.{Says, undeclared};
-ghost use Rattle.hoare_rules.specs.Steps.{IsAscending, learnt, written, freed};
+ghost use Rattle.hoare_rules.specs.Steps.{learnt, written, freed};
 
-use crate::atoms::{add_cell, cell_at, refused, set_cell_value, take_atom};
+use crate::allocs::allocate;
+use crate::atoms::{ascend, cell_at, set_cell_value, take_atom};
 use crate::cells::{NamedCell, find_named};
 use crate::names::bind;
-use crate::sizes::{context_is_within, formula_fits, named_fits, named_size, pair_fits, pair_size};
-use pure_proofs::{Known, Refusal, prove};
+use crate::steps::check_step;
+use heap_rules::{Predicates, context_is_within, pair_fits, pair_size, refused};
+use pure_proofs::{Known, Refusal};
 use sqlite_items::Boxed;
 use std::alloc::Global;
-use tht_tree::body::{Cells, Stmt, StmtKind};
+use tht_tree::body::{Stmt, StmtKind};
 use tht_tree::plain::{Name, Sort, Spot};
 use tht_tree::proof::Proof;
 use tht_tree::rule::RuleCode;
 use tht_tree::state::{Hyp, Local};
-use tht_tree::step::StepKind;
 use tht_tree::term::{Term, term_size};
 
 /// Goes on over a statement. After an `Err` what is known is of no use.
-pub(crate) fn check_stmt(alloc: Global, known: &mut Known, stmt: &Stmt) -> Result<(), Refusal>
-    requires { IsAscending (context_of known.old.state) }
-    ensures { Says result (after_stmt undeclared stmt.now.spot (context_of known.old.state) stmt.now.kind) (context_of known.new.state) }
+pub(crate) fn check_stmt(
+    alloc: Global,
+    known: &mut Known,
+    predicates: &Predicates<'_>,
+    stmt: &Stmt,
+) -> Result<(), Refusal>
+    ensures { Says result (after_stmt (declared_by predicates.now) stmt.now.spot (context_of known.old.state) stmt.now.kind) (context_of known.new.state) }
 {
-    check_kind(alloc, known, stmt.spot, &stmt.kind)
+    check_kind(alloc, known, predicates, stmt.spot, &stmt.kind)
 }
 
 // A statement, by its form.
-fn check_kind(alloc: Global, known: &mut Known, spot: Spot, kind: &StmtKind) -> Result<(), Refusal>
-    requires { IsAscending (context_of known.old.state) }
-    ensures { Says result (after_stmt undeclared spot (context_of known.old.state) kind.now) (context_of known.new.state) }
+#[tactic(auto, unfolding(heap_rules::specs::Declarations::declared_by))]
+fn check_kind(
+    alloc: Global,
+    known: &mut Known,
+    predicates: &Predicates<'_>,
+    spot: Spot,
+    kind: &StmtKind,
+) -> Result<(), Refusal>
+    ensures { Says result (after_stmt (declared_by predicates.now) spot (context_of known.old.state) kind.now) (context_of known.new.state) }
 {
     match kind {
         StmtKind::Read(x, sort, place, number, hyp, proof) => {
@@ -45,12 +55,12 @@ fn check_kind(alloc: Global, known: &mut Known, spot: Spot, kind: &StmtKind) -> 
             let cell = named_cell(spot, place, *number, proof);
             write(alloc, known, cell, value.get())
         }
-        StmtKind::Alloc(x, cells) => allocate_cells(alloc, known, spot, x, cells),
+        StmtKind::Alloc(x, cells) => allocate(alloc, known, spot, x, cells.as_slice()),
         StmtKind::Free(place, number, proof) => {
             let cell = named_cell(spot, place, *number, proof);
             free(alloc, known, cell)
         }
-        StmtKind::Proof(step) => check_step(alloc, known, spot, &step.kind),
+        StmtKind::Proof(step) => check_step(alloc, known, predicates, step),
         _ => Err(refused(spot, RuleCode::R5)),
     }
 }
@@ -124,7 +134,6 @@ fn equation(alloc: Global, hyp: &Name, name: &Name, value: &Term) -> Result<Hyp,
 // ---- writes
 
 fn write(alloc: Global, known: &mut Known, cell: NamedCell<'_>, value: &Term) -> Result<(), Refusal>
-    requires { IsAscending (context_of known.old.state) }
     ensures { Says result (after_write undeclared cell.entry.spot (context_of known.old.state) cell.entry.place.now value.now cell.entry.number cell.entry.proof.now) (context_of known.new.state) }
 {
     find_named(alloc, known, cell, None)?;
@@ -138,9 +147,9 @@ fn put_value(
     cell: NamedCell<'_>,
     value: &Term,
 ) -> Result<(), Refusal>
-    requires { IsAscending (context_of known.old.state) }
     ensures { Says result (written cell.entry.spot (context_of known.old.state) cell.entry.number value.now) (context_of known.new.state) }
 {
+    ascend(&known.state.atoms);
     let found = cell_at(&known.state.atoms, known.state.made, cell.spot, cell.number)?;
     if !pair_fits(found.place, value) {
         return Err(refused(cell.spot, RuleCode::R10));
@@ -177,99 +186,4 @@ fn take(known: &mut Known, cell: NamedCell<'_>) -> Result<(), Refusal>
     take_atom(&mut known.state.atoms, cell.number);
     known.nodes = nodes;
     Ok(())
-}
-
-// ---- allocs
-
-fn allocate_cells(
-    alloc: Global,
-    known: &mut Known,
-    spot: Spot,
-    name: &Name,
-    cells: &Cells,
-) -> Result<(), Refusal>
-    requires { IsAscending (context_of known.old.state) }
-    ensures { Says result (after_stmt undeclared spot (context_of known.old.state) (StmtKind.Alloc name.now cells.now)) (context_of known.new.state) }
-{
-    match cells.as_slice() {
-        [value] => allocate(alloc, known, spot, name, value),
-        _ => Err(refused(spot, RuleCode::R5)),
-    }
-}
-
-fn allocate(
-    alloc: Global,
-    known: &mut Known,
-    spot: Spot,
-    name: &Name,
-    value: &Term,
-) -> Result<(), Refusal>
-    requires { IsAscending (context_of known.old.state) }
-    ensures { Says result (after_alloc undeclared spot (context_of known.old.state) name.now value.now) (context_of known.new.state) }
-{
-    if !named_fits(value) {
-        return Err(refused(spot, RuleCode::R10));
-    }
-    let Some(number) = known.state.made.checked_add(1) else {
-        return Err(refused(spot, RuleCode::R10));
-    };
-    let nodes = known.nodes.saturating_add(named_size(value));
-    if !context_is_within(nodes) {
-        return Err(refused(spot, RuleCode::R10));
-    }
-    let place = Local::Variable(Sort::Loc);
-    bind(alloc, &mut known.state.scope, name, place)?;
-    add_cell(alloc, &mut known.state.atoms, number, name, value)?;
-    known.state.made = number;
-    known.nodes = nodes;
-    Ok(())
-}
-
-// ---- proof steps
-
-fn check_step(alloc: Global, known: &mut Known, spot: Spot, step: &StepKind) -> Result<(), Refusal>
-    ensures { Says result (after_step undeclared spot (context_of known.old.state) step.now) (context_of known.new.state) }
-{
-    match step {
-        StepKind::Have(hyp, formula, proof) => {
-            have(alloc, known, spot, hyp, formula.get(), proof)
-        }
-        _ => Err(refused(spot, RuleCode::R5)),
-    }
-}
-
-fn have(
-    alloc: Global,
-    known: &mut Known,
-    spot: Spot,
-    hyp: &Name,
-    formula: &Term,
-    proof: &Proof,
-) -> Result<(), Refusal>
-    ensures { Says result (after_have undeclared spot (context_of known.old.state) hyp.now formula.now proof.now) (context_of known.new.state) }
-{
-    prove_fitting(alloc, known, spot, formula, proof)?;
-    let hyp = Hyp {
-        name: hyp.copy()?,
-        formula: formula.copy(alloc)?,
-    };
-    known.assume(spot, hyp)?;
-    Ok(())
-}
-
-// Whether the formula is not too large, and proved. What is known stays as it was.
-fn prove_fitting(
-    alloc: Global,
-    known: &mut Known,
-    spot: Spot,
-    formula: &Term,
-    proof: &Proof,
-) -> Result<(), Refusal>
-    ensures verdict { IsVerdict result (proves spot (said_of undeclared proof.now) (context_of known.old.state) formula.now) }
-    ensures kept { context_of known.new.state ≡ context_of known.old.state }
-{
-    if !formula_fits(formula) {
-        return Err(refused(spot, RuleCode::R10));
-    }
-    prove(proof, alloc, &[], known, formula)
 }

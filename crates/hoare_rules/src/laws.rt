@@ -1,5 +1,5 @@
 // Laws of the rules and of the measure that they are sound by: each function does nothing, and its clause is a law.
-ghost use Rattle.hoare_rules.specs.Laws.{AcceptedIsSound, KeepsFewer};
+ghost use Rattle.hoare_laws.specs.Laws.{AcceptedIsSound, KeepsFewer};
 
 /// An accepted file is sound: no step of any run of it is a fault, and where main has a value, the cells that are left
 /// satisfy main's postcondition.

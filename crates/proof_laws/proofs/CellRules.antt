@@ -21,13 +21,13 @@ use Rattle.tht_tree.specs.Terms.{value}
 use Rattle.normal_laws.proofs.TermMeanings.{value-Null}
 use Rattle.tht_tree.specs.declared.rule.RuleCode.TheVariants.{R1, R2, R5}
 use Rattle.tht_tree.specs.Rules.Refusals.{needs, needs_some, ◌▸◌}
-use Rattle.tht_tree.specs.Rules.Shapes.{as_inequation, as_nonnull}
+use Rattle.tht_tree.specs.Rules.Shapes.{as_disequation, as_nonnull}
 use Rattle.tht_tree.specs.Rules.Known.{Declared, cell_place}
 use Rattle.proof_laws.specs.Scoped.{InScope, Signatures, scoped_at}
 use Rattle.tht_tree.specs.Rules.Proofs.{Prover, Entry, proof_at}
 use Rattle.proof_laws.specs.Satisfied.{HasCell, HasCells}
 use Rattle.proof_laws.proofs.Refusing.{seq_none, needs_none, some_none, two_none, both_true}
-use Rattle.proof_laws.proofs.ShapesSay.{a_term, inequation_is, nonnull_is}
+use Rattle.proof_laws.proofs.ShapesSay.{a_term, disequation_is, nonnull_is}
 use Rattle.proof_laws.proofs.Truth.{Holds, eq_says, neg_holds}
 use Rattle.proof_laws.proofs.SoundRule.{Valid, IsSound}
 
@@ -143,7 +143,7 @@ module _ (known : Declared) (fits : Signatures) (env : Env) (heap : Heap) where
 
   pub apart_sound : (i j : ℕ) → SoundAt (p.Apart i j) (p.Apart i j)
   apart_sound i j spot c sat order goal sorted e =
-      let shape = two_none spot R5 (as_inequation goal) (λ a b.
+      let shape = two_none spot R5 (as_disequation goal) (λ a b.
       needs_some spot R1 (atom_at i c.atoms) (λ x. needs_some spot R1 (atom_at j c.atoms) (λ y.
       needs_some spot R2 (cell_place x) (λ s. needs_some spot R2 (cell_place y) (λ u.
       needs spot R5 (not (i == j)) ▸ needs spot R5 (same_of s a && same_of u b)))))) e in
@@ -163,6 +163,6 @@ module _ (known : Declared) (fits : Signatures) (env : Env) (heap : Heap) where
       let u = right_cell.0 in
       let last = seq_none (needs spot R5 (not (i == j))) (needs spot R5 (same_of s a && same_of u b)) right_cell.2 in
       let sides = both_true (same_of s a) (same_of u b) (needs_none spot R5 (same_of s a && same_of u b) last.1) in
-      subst IsValid (sym (inequation_is goal shape.0 shape.1))
+      subst IsValid (sym (disequation_is goal shape.0 shape.1))
       (places_differ known.roots env i j one.0 two.0 s u a b c.atoms heap (not_same i j (needs_none spot R5 (not (i == j)) last.0)) sat.cells
       one.1 two.1 left_cell.1 right_cell.1 sides.0 sides.1)

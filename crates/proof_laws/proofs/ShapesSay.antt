@@ -7,7 +7,7 @@ use Rattle.tht_tree.specs.declared.term.Term.TheOpen.{Term-F}
 use Rattle.tht_tree.specs.declared.term.Term.TheOpen as f
 use Rattle.tht_tree.specs.SameTree.{same_of, is_num, is_null, is_nil_term, is_true, is_false}
 use Rattle.tht_tree.proofs.SameTerm.{same_of-true}
-use Rattle.tht_tree.specs.Rules.Shapes.{Pair, conjunction_at, as_conjunction, disjunction_at, as_disjunction, implication_at, as_implication, equation_at, as_equation, inequation_at, as_inequation, is_some_cons, says_nocons, some_holds, is_nocons, left_of_null, as_nonnull, difference_at, restored, monus_at, as_monus}
+use Rattle.tht_tree.specs.Rules.Shapes.{Pair, conjunction_at, as_conjunction, disjunction_at, as_disjunction, implication_at, as_implication, equation_at, as_equation, disequation_at, as_disequation, is_some_cons, says_nocons, some_holds, is_nocons, left_of_null, as_nonnull, difference_at, restored, monus_at, as_monus}
 use Rattle.proof_laws.proofs.Refusing.{both_true}
 
 abbrev pub a_term : Term → Option Term
@@ -60,12 +60,12 @@ equation_level _ p e = cc
 pub equation_is : (u : Term) (p : Pair) → as_equation u ≡ a_pair p → u ≡ t.Eq p.0 p.1
 equation_is u p e = rolled u (f.Eq p.0 p.1) (equation_level (out-Term u) p e) ∙ t.rolls-Eq p.0 p.1
 
-inequation_level : (x : Term-F Term) (p : Pair) → inequation_at x ≡ a_pair p → x ≡ f.Not (t.Eq p.0 p.1)
-inequation_level (f.Not a) p e = ap f.Not (equation_is a p e)
-inequation_level _ p e = cc
+disequation_level : (x : Term-F Term) (p : Pair) → disequation_at x ≡ a_pair p → x ≡ f.Not (t.Eq p.0 p.1)
+disequation_level (f.Not a) p e = ap f.Not (equation_is a p e)
+disequation_level _ p e = cc
 
-pub inequation_is : (u : Term) (p : Pair) → as_inequation u ≡ a_pair p → u ≡ t.Not (t.Eq p.0 p.1)
-inequation_is u p e = rolled u (f.Not (t.Eq p.0 p.1)) (inequation_level (out-Term u) p e) ∙ t.rolls-Not (t.Eq p.0 p.1)
+pub disequation_is : (u : Term) (p : Pair) → as_disequation u ≡ a_pair p → u ≡ t.Not (t.Eq p.0 p.1)
+disequation_is u p e = rolled u (f.Not (t.Eq p.0 p.1)) (disequation_level (out-Term u) p e) ∙ t.rolls-Not (t.Eq p.0 p.1)
 
 nil_level : (x : Term-F Term) → is_nil_term x ≡ true → x ≡ f.Nil
 nil_level f.Nil e = refl
@@ -114,28 +114,28 @@ cons_is u e = let h = cons_level (out-Term u) e in (h.0, h.1, rolled u (f.Cons h
 
 -- not (nil = (x :: s))
 pub nocons_is : (u : Term) → is_nocons u ≡ true → (x : Term) × (s : Term) × (u ≡ t.Not (t.Eq t.Nil (t.Cons x s)))
-nocons_is u e = from (as_inequation u) refl e
+nocons_is u e = from (as_disequation u) refl e
   where
-    from : (o : Option Pair) → as_inequation u ≡ o → some_holds says_nocons o ≡ true → (x : Term) × (s : Term) × (u ≡ t.Not (t.Eq t.Nil (t.Cons x s)))
+    from : (o : Option Pair) → as_disequation u ≡ o → some_holds says_nocons o ≡ true → (x : Term) × (s : Term) × (u ≡ t.Not (t.Eq t.Nil (t.Cons x s)))
     from None h g = cc
     from (Some p) h g =
         let parts = both_true (is_nil_term (out-Term p.0)) (is_some_cons (out-Term p.1)) g in
         let right = cons_is p.1 parts.1 in
-        (right.0, right.1, inequation_is u p h ∙ (λ i. t.Not (t.Eq (nil_is p.0 parts.0 i) (right.2 i))))
+        (right.0, right.1, disequation_is u p h ∙ (λ i. t.Not (t.Eq (nil_is p.0 parts.0 i) (right.2 i))))
 
 -- not (a = null)
 pub nonnull_is : (u a : Term) → as_nonnull u ≡ a_term a → u ≡ t.Not (t.Eq a t.Null)
-nonnull_is u a e = from (as_inequation u) refl e
+nonnull_is u a e = from (as_disequation u) refl e
   where
     by_right : (p : Pair) (c : Bool) → is_null (out-Term p.1) ≡ c → cond c (a_term p.0) None ≡ a_term a → (p.0 ≡ a) × (p.1 ≡ t.Null)
     by_right p true h g = (cc, null_is p.1 h)
     by_right p false h g = cc
 
-    from : (o : Option Pair) → as_inequation u ≡ o → option_and_then left_of_null o ≡ a_term a → u ≡ t.Not (t.Eq a t.Null)
+    from : (o : Option Pair) → as_disequation u ≡ o → option_and_then left_of_null o ≡ a_term a → u ≡ t.Not (t.Eq a t.Null)
     from None h g = cc
     from (Some p) h g =
         let parts = by_right p (is_null (out-Term p.1)) refl g in
-        inequation_is u p h ∙ (λ i. t.Not (t.Eq (parts.0 i) (parts.1 i)))
+        disequation_is u p h ∙ (λ i. t.Not (t.Eq (parts.0 i) (parts.1 i)))
 
 -- ---- differences
 

@@ -8,7 +8,7 @@ ghost use Rattle.tht_tree.specs.Rules.Context.{atom_at};
 ghost use Rattle.tht_tree.specs.Rules.Known.{hyp_named, cell_place as place_of};
 ghost use Rattle.tht_tree.specs.Rules.Proofs.{equation_of as equation_in, makes, needs_normal, needs_same_normal};
 ghost use Rattle.tht_tree.specs.Rules.Refusals.{needs, needs_some, needs_two, ◌▸◌};
-ghost use Rattle.tht_tree.specs.Rules.Shapes.{as_equation as equation_at, as_inequation as inequation_at, as_nonnull as nonnull_at};
+ghost use Rattle.tht_tree.specs.Rules.Shapes.{as_equation as equation_at, as_disequation as disequation_at, as_nonnull as nonnull_at};
 ghost use Rattle.pure_proofs.specs.Formulas.{made_of};
 ghost use Rattle.pure_proofs.specs.Said.{known_in};
 ghost use Rattle.pure_proofs.specs.Verdicts.{without_lemmas};
@@ -16,7 +16,7 @@ ghost use Rattle.pure_proofs.specs.Verdicts.{without_lemmas};
 use crate::forms::{normal_is_true, same_normal};
 use crate::formulas::{Formula, make};
 use crate::known::Known;
-use crate::shapes::{Pair, as_equation, as_inequation, as_nonnull};
+use crate::shapes::{Pair, as_disequation, as_equation, as_nonnull};
 use crate::sorts::equation_of;
 use crate::verdict::{Verdict, need, refuse};
 use std::alloc::Global;
@@ -111,12 +111,12 @@ pub(crate) fn by_two_cells(
     known: &Known,
     goal: &Term,
 ) -> Option<RuleRefusal>
-    ensures { let atoms = (known_in known.now.state).atoms in result ≡ needs_two spot R5 (inequation_at goal.now) (λ a b.
+    ensures { let atoms = (known_in known.now.state).atoms in result ≡ needs_two spot R5 (disequation_at goal.now) (λ a b.
         needs_some spot R1 (atom_at i atoms) (λ x. needs_some spot R1 (atom_at j atoms) (λ y.
         needs_some spot R2 (place_of x) (λ s. needs_some spot R2 (place_of y) (λ u.
         needs spot R5 (not (i == j)) ▸ needs spot R5 (same_of s a && same_of u b)))))) }
 {
-    let Some((a, b)) = as_inequation(goal) else {
+    let Some((a, b)) = as_disequation(goal) else {
         return need(spot, RuleCode::R5, false);
     };
     let Some(x) = known.atom(i) else {

@@ -3,7 +3,7 @@ ghost use Rattle.std.specs.Prelude.{◌≡◌, None, Some, MatchOption};
 ghost use Rattle.tht_tree.specs.declared.term.Term.{out-Term};
 ghost use Rattle.tht_tree.specs.declared.term.Term.TheVariants.{Add};
 ghost use Rattle.tht_tree.specs.SameTree.{is_num as says_num, is_null as says_null, is_nil_term, is_true as says_true, is_false as says_false};
-ghost use Rattle.tht_tree.specs.Rules.Shapes.{as_conjunction as conjunction_of, as_disjunction as disjunction_of, as_equation as equation_of, as_inequation as inequation_of};
+ghost use Rattle.tht_tree.specs.Rules.Shapes.{as_conjunction as conjunction_of, as_disjunction as disjunction_of, as_equation as equation_of, as_disequation as disequation_of};
 ghost use Rattle.tht_tree.specs.Rules.Shapes.{is_nocons as says_nocons, as_nonnull as nonnull_of, as_monus as monus_of, monus_at, is_some_cons};
 
 use tht_tree::term::{Term, same_term};
@@ -46,8 +46,8 @@ pub(crate) fn as_equation(term: &Term) -> Option<Pair<'_>>
 }
 
 /// `not (a = b)`
-pub(crate) fn as_inequation(term: &Term) -> Option<Pair<'_>>
-    ensures { MatchOption result (inequation_of term.now ≡ None) (λ p. inequation_of term.now ≡ Some (p.0.now, p.1.now)) }
+pub(crate) fn as_disequation(term: &Term) -> Option<Pair<'_>>
+    ensures { MatchOption result (disequation_of term.now ≡ None) (λ p. disequation_of term.now ≡ Some (p.0.now, p.1.now)) }
 {
     match term {
         Term::Not(a) => as_equation(a.get()),
@@ -59,7 +59,7 @@ pub(crate) fn as_inequation(term: &Term) -> Option<Pair<'_>>
 pub(crate) fn is_nocons(term: &Term) -> bool
     ensures { result ≡ says_nocons term.now }
 {
-    match as_inequation(term) {
+    match as_disequation(term) {
         Some((a, b)) => is_nil(a) && is_cons(b),
         None => false,
     }
@@ -81,7 +81,7 @@ fn is_cons(term: &Term) -> bool
 pub(crate) fn as_nonnull(term: &Term) -> Option<&Term>
     ensures { MatchOption result (nonnull_of term.now ≡ None) (λ a. nonnull_of term.now ≡ Some a.now) }
 {
-    match as_inequation(term) {
+    match as_disequation(term) {
         Some((a, b)) if is_null(b) => Some(a),
         _ => None,
     }

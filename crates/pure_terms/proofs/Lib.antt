@@ -17,3 +17,4 @@ pub mod Differences
 pub mod MergedLists
 pub mod ReadOnce
 pub mod ReadingAnswers
+pub mod InsideTerms

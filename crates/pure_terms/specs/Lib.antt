@@ -7,3 +7,5 @@ pub mod Binary
 pub mod Sides
 pub mod Levels
 pub mod Readings
+pub mod Inside
+pub mod Zeros

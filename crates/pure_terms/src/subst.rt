@@ -3,23 +3,27 @@ ghost use Rattle.std.specs.Prelude.{◌≡◌, ◌-◌, ◌^◌, ℕ, List, [], 
 ghost use Rattle.tht_tree.specs.declared.term.Term.TheVariants.{Var};
 ghost use Rattle.tht_tree.specs.Rules.Sizes.{nodes as nodes_of, levels as levels_of};
 ghost use Rattle.tht_tree.specs.Normal.Putting.{put_name};
+ghost use Rattle.pure_terms.specs.Zeros.{zeros_in};
 
+use crate::zeros::{term_zeros, zeros_of};
 use sqlite_items::Items;
 use std::alloc::Global;
 use std::marker::Model;
 use tht_tree::plain::{Memory, Name};
 use tht_tree::term::{Term, term_levels, term_size};
 
-/// A name with the term that is put in for it, and how many nodes and levels that has: at most 2^64 - 1, where the counts
-/// stay.
+/// A name with the term that is put in for it, how many nodes and levels that has (at most 2^64 - 1, where the counts stay), and
+/// how long the longest name of zeros in it is.
 #[derive(Drop)]
 pub(crate) struct Entry {
     pub name: Name,
     pub term: Term,
     pub nodes: u64,
     pub levels: u64,
+    pub zeros: usize,
     ghost counted: { nodes ≡ min (nodes_of term) (2 ^ 64 - 1) },
     ghost measured: { levels ≡ min (levels_of term) (2 ^ 64 - 1) },
+    ghost named: { zeros ≡ zeros_in term },
 }
 
 /// Names, each with the term that is put in for it. Contracts see them as a list of pairs, in the order in which they were
@@ -57,12 +61,13 @@ impl Subst {
         ensures ok { OnOk result (self.new ≡ self.old ++ (name, term) ∷ []) }
         ensures err { OnErr result (self.new ≡ self.old) }
     {
-        let (nodes, levels) = (term_size(&term), term_levels(&term));
+        let (nodes, levels, zeros) = (term_size(&term), term_levels(&term), term_zeros(&term));
         self.entries.push(Entry {
             name,
             term,
             nodes,
             levels,
+            zeros,
         })?;
         Ok(())
     }
@@ -71,6 +76,36 @@ impl Subst {
         ensures { MatchOption result (put_name self.now name.now ≡ Var name.now) (λ e. put_name self.now name.now ≡ e.now.term) }
     {
         find_in(self.entries.as_slice(), name)
+    }
+
+    /// How many nodes what stands for a name has: at most 2^64 - 1, where the count stays.
+    pub(crate) fn nodes(&self, name: &Name) -> u64
+        ensures { result ≡ min (nodes_of (put_name self.now name.now)) (2 ^ 64 - 1) }
+    {
+        match self.find(name) {
+            Some(entry) => entry.nodes,
+            None => 1,
+        }
+    }
+
+    /// How many levels what stands for a name has: at most 2^64 - 1, where the count stays.
+    pub(crate) fn levels(&self, name: &Name) -> u64
+        ensures { result ≡ min (levels_of (put_name self.now name.now)) (2 ^ 64 - 1) }
+    {
+        match self.find(name) {
+            Some(entry) => entry.levels,
+            None => 1,
+        }
+    }
+
+    /// How long the longest name of zeros in what stands for a name is.
+    pub(crate) fn zeros(&self, name: &Name) -> usize
+        ensures { result ≡ zeros_in (put_name self.now name.now) }
+    {
+        match self.find(name) {
+            Some(entry) => entry.zeros,
+            None => zeros_of(name),
+        }
     }
 }
 

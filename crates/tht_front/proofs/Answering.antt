@@ -18,18 +18,19 @@ use Rattle.tht_tree.specs.declared.text_fault.TextFault.{TextFault}
 use Rattle.tht_tree.specs.declared.text_fault.TextFault.TheVariants as f
 use Rattle.tht_tree.specs.Spelling.{IsSpelled}
 use Rattle.tht_grammar.proofs.TextFaults.{no_file_split, no_file_spelled}
-use Rattle.tht_tree.specs.Runs.{start_of, GoesLowest}
-use Rattle.tht_tree.specs.Soundness.{IsSound}
-use Rattle.tht_tree.specs.CommandLine
-use Rattle.tht_tree.specs.CommandLine.{budget, input_limit, Reports, Takes, TakesNone, Accepts, IsFirstFault, SaysFault, SaysLater, SaysRefusal, RefusesText, RefusesNames, FileAnswers, IsRefused, IsOutOfOrder, EndsSo}
+use Rattle.tht_logic.specs.Runs.{start_of, GoesLowest}
+use Rattle.tht_logic.specs.Soundness.{IsSound}
+use Rattle.tht_logic.specs.CommandLine
+use Rattle.tht_logic.specs.CommandLine.{budget, input_limit, Reports, Takes, TakesNone, Accepts, IsFirstFault, SaysFault, SaysLater, SaysRefusal, RefusesText, RefusesNames, FileAnswers, IsRefused, IsOutOfOrder, EndsSo}
 use Rattle.tht_tree.specs.Rules.Context.{no_context}
-use Rattle.tht_tree.specs.Rules.Formed.{IsFormed}
-use Rattle.tht_tree.specs.Built.{is_built}
+use Rattle.tht_logic.specs.Rules.Formed.{IsFormed}
+use Rattle.tht_logic.specs.Rules.Scoped.{Signatures}
+use Rattle.tht_logic.specs.Built.{is_built}
 use Rattle.tht_tree.specs.Walk.Files.{first_refusal, WellSorted}
 use Rattle.tht_tree.specs.declared.walk.WalkRefusal.{WalkRefusal}
 use Rattle.tht_tree.specs.declared.rule.RuleRefusal.{RuleRefusal}
 use Rattle.tht_tree.specs.Lines.{walk_line, rule_line}
-use Rattle.tht_tree.specs.Rules.Files.{rule_refusal}
+use Rattle.tht_logic.specs.Rules.Files.{first_rule_refusal}
 use Rattle.tht_parse.specs.Ends.{IsFirstFault as IsFirst}
 use Rattle.tht_parse.specs.declared.end.ParseEnd.{ParseEnd}
 use Rattle.tht_parse.specs.declared.end.ParseEnd.TheVariants as end
@@ -83,9 +84,9 @@ one_command x y e = cc
 
 -- ---- accepted files
 
-pub nothing_formed : IsFormed [] no_context
+pub nothing_formed : (instance : Signatures) → IsFormed [] instance no_context
 unfolding IsStrictlySortedBy
-nothing_formed = record { ascending = tt; numbered = All-nil _; atoms = All-nil _; hyps = All-nil _ }
+nothing_formed instance = record { ascending = tt; numbered = All-nil _; atoms = All-nil _; hyps = All-nil _; no_root_hidden = λ x r e. cc }
 
 pub no_fault : (file : Source1) → IsSound file → RunFaults file budget → ⊥
 no_fault file sound f = f.fault (sound.safe budget f.order f.last f.runs 0 f.left)
@@ -179,7 +180,7 @@ pub walk_answers : (file : Source1) (r : WalkRefusal) (s : Status) (output : Lis
     → AnswersTo Run file s output
 walk_answers file r s output built first same line = let P : Status → Type 0 = λ t. AnswersTo Run file t output in subst P (sym same) (r, built, first, line)
 
-pub rule_answers : (file : Source1) (r : RuleRefusal) (s : Status) (output : List ℕ) → rule_refusal file ≡ Some r → s ≡ status.Rule → output ≡ rule_line r → Accepts Run file s output
+pub rule_answers : (file : Source1) (r : RuleRefusal) (s : Status) (output : List ℕ) → first_rule_refusal file ≡ Some r → s ≡ status.Rule → output ≡ rule_line r → Accepts Run file s output
 rule_answers file r s output first same line = let P : Status → Type 0 = λ t. Accepts Run file t output in subst P (sym same) (r, first, line)
 
 -- the answer of `run` to a file whose names and sorts are in order

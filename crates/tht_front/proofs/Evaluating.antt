@@ -8,7 +8,7 @@ use Rattle.tht_tree.specs.declared.term.Term.TheOpen as f
 use Rattle.tht_tree.specs.Values.{Val, is, value_in, nat_in, bool_in, place_in, unit_value, is_small_val, same_value}
 use Rattle.tht_tree.specs.Syntax.{Trm, bound, len, off, neg, op, add, sub, mul, eq, lt, le, conj, disj, imp, Names, position, named, trm, trm_at}
 use Rattle.tht_tree.specs.Terms.{nth, value_of, fits, offset_by, implies}
-use Rattle.tht_tree.specs.Machine.{no_env, value}
+use Rattle.tht_logic.specs.Machine.{no_env, value}
 use Rattle.tht_tree.specs.Rules.Scoping.{sequence_free, sequence_free_at}
 use Rattle.tht_tree.proofs.TermInduction.{fold_level, OfParts, by_parts}
 use Rattle.tht_front.specs.Running.{Named, fitting, one, both, evaluated, evaluated_at}

@@ -13,33 +13,31 @@ use Rattle.tht_tree.specs.declared.run.End.TheVariants.{Big as BigEnd}
 use Rattle.tht_tree.specs.declared.term.Term.TheVariants as term
 use Rattle.tht_tree.proofs.TermFolds.{at-Unit}
 use Rattle.tht_tree.specs.Values.{Val, is, unit_value}
-use Rattle.tht_tree.specs.Syntax.{Names, Code, ret, trm, stmt_code, stmts_code, end_code, stmts_of, end_of}
+use Rattle.tht_tree.specs.Syntax.{Names, trm}
+use Rattle.tht_logic.specs.Programs.{Code, ret, stmt_code, stmts_code, end_code, stmts_of, end_of}
 use Rattle.tht_tree.specs.declared.plain.Place.TheVariants.{Null, Root, Cell}
 use Rattle.tht_tree.specs.Heaps.{nothing as nothing_here}
 use Rattle.tht_front.proofs.Cells.{IsHeapOf}
 use Rattle.tht_tree.specs.Terms.{fits}
-use Rattle.tht_tree.specs.Machine.{Mem, Prog, Ended, FrontBig, Leaf, closed, no_env, value, Said, Next, Cannot, Big, Longer, Moved, step_of}
-use Rattle.tht_tree.specs.Runs.{State, entered, step_in, on_moved, follow, start_of, run_of, IsLowest, EndsLowest, GoesLowest}
-use Rattle.tht_tree.specs.Soundness.{IsSafe}
+use Rattle.tht_logic.specs.Machine.{Mem, Prog, Ended, FrontBig, Leaf, closed, no_env, value, Said, Next, Cannot, Big, Longer, Moved, step_of}
+use Rattle.tht_logic.specs.Runs.{State, entered, step_in, on_moved, follow, start_of, run_of, IsLowest, EndsLowest, GoesLowest}
+use Rattle.tht_logic.specs.Soundness.{IsSafe}
 use Rattle.tht_tree.specs.declared.plain.Sort.{Sort}
 use Rattle.tht_tree.specs.declared.body.Body.{out-Body}
 use Rattle.tht_tree.specs.declared.plain.Spot.{Spot}
 use Rattle.tht_tree.specs.declared.walk.Frame.{Frame}
 use Rattle.tht_tree.specs.declared.walk.Where.TheVariants.{Outside}
-use Rattle.tht_tree.specs.Built as built
+use Rattle.tht_logic.specs.Built as built
 use Rattle.tht_tree.specs.Rules.Context.{Scope, no_locals}
 use Rattle.tht_tree.specs.Walk.Names as walk
-use Rattle.tht_tree.specs.Walk.Names.{no_names}
 use Rattle.tht_tree.specs.Walk.Bodies as w
 use Rattle.tht_tree.specs.Walk.Bodies.{InBody, statements, frame}
 use Rattle.tht_tree.specs.Walk.Files.{WellSorted}
 use Rattle.walk_laws.proofs.Levels.{stmt_is, end_is}
-use Rattle.hoare_rules.specs.Names.{Tells}
 use Rattle.std.specs.List.{list_all}
-use Rattle.hoare_rules.proofs.MainWalked.{main_walked}
-use Rattle.hoare_rules.proofs.BodySound.{parts_is}
-use Rattle.hoare_rules.proofs.Refused.{nothing, behind_none}
-use Rattle.tht_front.proofs.Walking.{told_after, ret_walked, built_stmts, built_here}
+use Rattle.proof_laws.specs.Walked.{Matches}
+use Rattle.assn_laws.proofs.Refusing.{nothing, behind_none}
+use Rattle.tht_front.proofs.Walking.{known_after, ret_walked, parts_is, before_main, main_walked, main_matches, built_stmts, built_here}
 use Rattle.tht_front.specs.Running.{Store, went, too_big, fault, evaluated, evaluated_at, carried, is_command}
 use Rattle.tht_front.specs.Carrying.{returned, end_said}
 use Rattle.tht_front.specs.Outcomes.{RunEnds, RunFaults}
@@ -90,12 +88,12 @@ end_at : (b : Bool) (w : Value) (o : Option Value) (t : State) → o ≡ (if b t
 end_at true w o t same tree = rw same tree
 end_at false w o t same tree = let f : step_in t 0 ≡ Big = rw tree refl in rw same (lowest t Big f (λ z. cc), f)
 
-module _ (spot : Spot) (names : walk.Scope) (scope : Scope) (tells : Tells names scope) (r : Sort) where
+module _ (spot : Spot) (names : walk.Scope) (scope : Scope) (matches : Matches [] names scope) (r : Sort) where
   finish : (k : EndKind) (xs : Names) (ws : List Value) (st : Store) (t : State) → w.end_kind k spot (frame Outside r) names ≡ nothing → StandsFor st xs ws t.mem
       → t.tree ≡ Leaf 0 (closed (map is ws) (end_code [] k xs)) → EndsLowest t (end_said (evaluated st.named (returned k)))
   finish (e.Ret u g) xs ws st t order stands tree =
       let vs : List Val = map is ws in
-      let plain = (ret_walked spot (frame Outside r) names scope tells r u g order).plain in
+      let plain = ret_walked (frame Outside r) names scope matches spot r u g order in
       let h : Means vs (evaluated st.named u) (trm [] xs u) = terms 0 t.mem (λ ys. ret (trm [] ys u)) st xs ws stands u plain in
       end_at (fits no_env vs (trm [] xs u)) (value vs (trm [] xs u)) (evaluated st.named u) t h.answer tree
   finish _ xs ws st t order stands tree = end_at true unit_value (evaluated st.named term.Unit) t (at-Unit (Option Value) (evaluated_at st.named)) tree
@@ -136,7 +134,7 @@ module _ (file : Source1) (budget : ℕ) where
     pub stands : StandsFor st xs ws state.mem
     pub names : walk.Scope
     pub scope : Scope
-    pub tells : Tells names scope
+    pub matches : Matches [] names scope
     pub order : walk_of stmts place names ≡ nothing
     pub all_built : list_all (λ y. built.stmt y.kind) stmts ≡ true
 
@@ -150,10 +148,10 @@ module _ (file : Source1) (budget : ℕ) where
     left = omega arith;
     tree = refl;
     stands = record { named = λ x. refl; heap = no_cells; made = refl };
-    names = no_names;
+    names = before_main file;
     scope = no_locals;
-    tells = λ x. refl;
-    order = sym (parts_is file.main.body place no_names) ∙ main_walked file all_built sorted;
+    matches = main_matches file all_built sorted;
+    order = sym (parts_is file.main.body place (before_main file)) ∙ main_walked file sorted;
     all_built = built_stmts file all_built;
   })
 
@@ -192,8 +190,8 @@ module _ (file : Source1) (budget : ℕ) where
     is_built : (built.stmt x.kind ≡ true) × (list_all (λ y. built.stmt y.kind) ss ≡ true)
     is_built = built_here x ss here.all_built
 
-    told : (d : Scope) × Tells names_after d
-    told = told_after x.spot place here.names here.scope here.tells x.kind is_built.0 walked
+    known : (d : Scope) × Matches [] names_after d
+    known = known_after place here.names here.scope here.matches x.spot x.kind is_built.0 walked
 
     -- the step, with so many left
     step_is : (n : ℕ) → n ≡ here.state.left → step_in here.state 0 ≡ step_of [] 0 n here.state.mem (Leaf 0 front)
@@ -201,7 +199,7 @@ module _ (file : Source1) (budget : ℕ) where
 
     -- what the step says, where one is left at least
     said : is_command x.kind ≡ true → (n : ℕ) → suc n ≡ here.state.left → Follows (carried x.kind st) next (step_in here.state 0)
-    said command n same = rw (step_is (suc n) same) (follows n here.state.mem next st here.xs here.ws here.stands x.spot place here.names here.scope here.tells x.kind command walked)
+    said command n same = rw (step_is (suc n) same) (follows n here.state.mem next st here.xs here.ws here.stands place here.names here.scope here.matches x.spot x.kind command walked)
 
     one_left : steps < budget → (n : ℕ) × (suc n ≡ here.state.left)
     one_left less = (here.state.left - 1, let l = here.left in omega arith)
@@ -217,8 +215,8 @@ module _ (file : Source1) (budget : ℕ) where
       tree = here.tree ∙ ap (λ c. Leaf 0 (closed (map is here.ws) c)) (no_code x.kind step);
       stands = here.stands;
       names = names_after;
-      scope = told.0;
-      tells = told.1;
+      scope = known.0;
+      matches = known.1;
       order = behind;
       all_built = is_built.1;
     }
@@ -244,8 +242,8 @@ module _ (file : Source1) (budget : ℕ) where
           tree = f.5;
           stands = record { named = f.6.named; heap = f.6.heap; made = f.6.made };
           names = names_after;
-          scope = told.0;
-          tells = told.1;
+          scope = known.0;
+          matches = known.1;
           order = behind;
           all_built = is_built.1;
         }
@@ -265,7 +263,7 @@ module _ (file : Source1) (budget : ℕ) where
     none_left : (k : StmtKind) → is_command k ≡ true → (vs : List Val) (xs : Names) (m : Mem) → step_of [] 0 0 m (Leaf 0 (closed vs (stmt_code [] k xs next))) ≡ Longer
     none_left (s.Read y r t i h p) c vs xs m = refl
     none_left (s.Write t u i p) c vs xs m = refl
-    none_left (s.Alloc y (t ∷ [])) c vs xs m = refl
+    none_left (s.Alloc y ts) c vs xs m = refl
     none_left (s.Free t i p) c vs xs m = refl
     none_left (s.Proof y) c vs xs m = cc
     none_left _ c vs xs m = refl
@@ -280,7 +278,7 @@ module _ (file : Source1) (budget : ℕ) where
   pub finished : (steps : ℕ) (st : Store) → About steps st [] → RunEnds file budget (end_said (evaluated st.named (returned (end_of file.main.body)))) steps
   finished steps st here =
       let main_end = (out-Body file.main.body).end in
-      ended steps here.state _ here.steps_so here.left (finish main_end.spot here.names here.scope here.tells file.main.sort main_end.kind here.xs here.ws st here.state (sym (end_is main_end.spot main_end.kind place here.names) ∙ here.order) here.stands here.tree)
+      ended steps here.state _ here.steps_so here.left (finish main_end.spot here.names here.scope here.matches file.main.sort main_end.kind here.xs here.ws st here.state (sym (end_is main_end.spot main_end.kind place here.names) ∙ here.order) here.stands here.tree)
 
   -- the statement at hand, and those after it
   pub now_at : (steps : ℕ) (st : Store) (xs ys : List Stmt) (i : ℕ) (x : Stmt) → ys ≡ xs → i < length ys → x ≡ get_or ys i x → About steps st (drop i xs) → About steps st (x ∷ drop (i + 1) xs)

@@ -8,10 +8,10 @@ use Rattle.tht_tree.specs.declared.command.Command.{Command}
 use Rattle.tht_tree.specs.declared.command.Command.TheVariants.{Read}
 use Rattle.tht_tree.specs.declared.command.Reader.TheVariants.{Run}
 use Rattle.tht_tree.specs.Spelling.{IsSpelled}
-use Rattle.tht_tree.specs.Runs.{start_of}
-use Rattle.tht_tree.specs.Soundness.{IsSound}
-use Rattle.tht_tree.specs.CommandLine.{budget, ends_a_run, Reports, Answers, HasInput, RunHasEnded}
-use Rattle.tht_tree.specs.Rules.Files.{IsSource, IsAccepted}
+use Rattle.tht_logic.specs.Runs.{start_of}
+use Rattle.tht_logic.specs.Soundness.{IsSound}
+use Rattle.tht_logic.specs.CommandLine.{budget, ends_a_run, Reports, Answers, HasInput, RunHasEnded}
+use Rattle.tht_logic.specs.Rules.Files.{IsSource, IsAccepted}
 use Rattle.tht_front.proofs.Lowest.{ends_at}
 
 module _ (one_file : (a b : Source1) (bytes : List ℕ) → IsSpelled a bytes → IsSpelled b bytes → a ≡ b) (sound : (file : Source1) → IsAccepted file → IsSound file) where

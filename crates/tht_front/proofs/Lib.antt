@@ -1,4 +1,5 @@
 pub mod Naming
+pub mod Laying
 pub mod Cells
 pub mod Evaluating
 pub mod Stepping

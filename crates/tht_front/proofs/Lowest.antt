@@ -3,8 +3,8 @@ use Rattle.std.proofs.Common.{◌≡◌, ℕ, ◌<◌, ◌==◌, cond, Bool, tru
 use Rattle.tht_tree.specs.declared.plain.Value.{Value}
 use Rattle.tht_tree.specs.declared.run.End.{End}
 use Rattle.tht_tree.specs.declared.run.End.TheVariants as end
-use Rattle.tht_tree.specs.Machine.{Leaf, Ended, Tree, Said, Next, Cannot, Big, Longer, Moved}
-use Rattle.tht_tree.specs.Runs.{State, entered, step_in, on_moved, follow, Ends, IsLowest, EndsLowest, GoesLowest}
+use Rattle.tht_logic.specs.Machine.{Leaf, Ended, Tree, Said, Next, Cannot, Big, Longer, Moved}
+use Rattle.tht_logic.specs.Runs.{State, entered, step_in, on_moved, follow, Ends, IsLowest, EndsLowest, GoesLowest}
 
 -- what is in an option, or this
 abbrev or_first : State → Option State → State

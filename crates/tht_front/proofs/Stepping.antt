@@ -1,5 +1,5 @@
 -- What the runner does with a statement is the machine's step.
-use Rattle.std.proofs.Common.{◌≡◌, ℕ, suc, ◌+◌, cond, ◌&&◌, Bool, true, false, List, [], ◌∷◌, ◌++◌, map, length, bytes_eq, Option, Some, None, option_map, unwrap_or, refl, sym, ◌∙◌, ap, if◌then◌else◌}
+use Rattle.std.proofs.Common.{◌≡◌, ℕ, suc, ◌+◌, cond, ◌&&◌, Bool, true, false, List, [], ◌∷◌, ◌++◌, map, length, bytes_eq, Option, Some, None, option_map, unwrap_or, refl, sym, ◌∙◌, ap, subst, arith, if◌then◌else◌}
 use Rattle.tht_tree.specs.declared.plain.Place.{Place}
 use Rattle.tht_tree.specs.declared.plain.Place.TheVariants.{Null, Cell}
 use Rattle.tht_tree.specs.declared.plain.Sort.{Sort}
@@ -9,20 +9,21 @@ use Rattle.tht_tree.specs.declared.term.Term.{Term}
 use Rattle.tht_tree.specs.declared.body.StmtKind.{StmtKind}
 use Rattle.tht_tree.specs.declared.body.StmtKind.TheVariants as s
 use Rattle.tht_tree.specs.Values.{Val, is, place_in, has_sort, unit_value}
-use Rattle.tht_tree.specs.Syntax.{Names, Code, trm, stmt_code}
+use Rattle.tht_tree.specs.Syntax.{Trm, Names, trm}
+use Rattle.tht_logic.specs.Programs.{Code, stmt_code}
 use Rattle.tht_tree.specs.Terms.{fits}
-use Rattle.tht_tree.specs.Heaps.{own}
-use Rattle.tht_tree.specs.Machine.{Cmd, TermBig, Read, Write, Alloc, Free, Prog, Plain, closed, no_env, value, Mem, retag, Said, Next, Big, Wrong, on_next, at_leaf, Ran, Leaf, Moved, step_of}
-use Rattle.tht_tree.specs.Soundness.{IsSafe}
+use Rattle.tht_tree.specs.Heaps.{Heap, own}
+use Rattle.tht_logic.specs.Machine.{Cmd, TermBig, Read, Write, Alloc, Free, Prog, Plain, closed, no_env, value, all_fit, if_fit, Mem, retag, put, laid, Said, Next, Big, Wrong, on_next, at_leaf, Ran, Leaf, Moved, step_of}
+use Rattle.tht_logic.specs.Soundness.{IsSafe}
 use Rattle.tht_tree.specs.Rules.Context.{Scope}
 use Rattle.tht_tree.specs.Rules.Scoping.{sequence_free}
 use Rattle.tht_tree.specs.declared.plain.Spot.{Spot}
 use Rattle.tht_tree.specs.declared.walk.Frame.{Frame}
 use Rattle.tht_tree.specs.Walk.Names as walk
-use Rattle.hoare_rules.specs.Names.{Tells}
-use Rattle.hoare_rules.proofs.Walked.{Walked, read_walked, write_walked, alloc_walked, free_walked}
+use Rattle.proof_laws.specs.Walked.{Matches}
+use Rattle.tht_front.proofs.Walking.{ArePlain, Walked, read_walked, write_walked, alloc_walked, free_walked}
 use Rattle.tht_front.specs.Running.{is_command}
-use Rattle.tht_front.specs.Running.{Store, Carried, went, too_big, fault, evaluated, held, with_name, on_value, on_cell, if_sort, with_cell, index_of, carried}
+use Rattle.tht_front.specs.Running.{Store, Carried, went, too_big, fault, evaluated, held, with_name, on_value, on_cell, on_cells, on_pushed, with_values, if_sort, with_cell, index_of, carried}
 use Rattle.std.proofs.lemmas.List.{length-set, length_push}
 use Rattle.tht_front.proofs.Cells.{IsHeapOf, heap_set, heap_same, heap_push}
 use Rattle.tht_front.proofs.Evaluating.{found, name_value, Means, means}
@@ -49,6 +50,14 @@ next_ran r = Next r
 
 abbrev if_some : Bool → Value → Option Value
 if_some b w = if b then Some w else None
+
+-- cells with the new values, which are those of this heap, so many; or none, where a value does not fit
+abbrev IsLaid : Bool → Option (List (Option Value)) → Heap → ℕ → Type 0
+IsLaid true o h k = (cells : List (Option Value)) × (o ≡ Some cells) × IsHeapOf cells h × (length cells ≡ k)
+IsLaid false o h k = o ≡ None
+
+counted : (f : Bool) (o : Option (List (Option Value))) (h : Heap) (j k : ℕ) → j ≡ k → IsLaid f o h j → IsLaid f o h k
+counted f o h j k same so = subst (IsLaid f o h) same so
 
 module _ (n : ℕ) (m : Mem) (next : Names → Code) where
   -- a statement with one term
@@ -126,9 +135,36 @@ module _ (n : ℕ) (m : Mem) (next : Names → Code) where
       record { named = stands.named; heap = heap_set st.cells m.heap p old None stands.heap e; made = stands.made ∙ sym (length-set st.cells (index_of p) None) },
     )
 
-    alloc_at : (x : List ℕ) (w : Value) → Follows (went (record { named = with_name st.named x (v.Loc (Cell 0 (length st.cells))); cells = st.cells ++ Some w ∷ [] })) next
-        (step_at n m (Plain (Alloc (w ∷ [])) (λ v. closed (is v ∷ vs) (next (x ∷ xs)))))
-    alloc_at x w = (
+    -- the terms of the machine for these terms, and their values
+    abbrev terms_of : List Term → List Trm
+    terms_of ts = map (trm [] xs) ts
+
+    abbrev values_of : List Term → List Value
+    values_of ts = map (value vs) (terms_of ts)
+
+    -- one more cell, where its value fits
+    pushed : (f all : Bool) (e : Option Value) (w : Value) (cells : List (Option Value)) (more : List (Option Value) → Option (List (Option Value))) (h : Heap) (k : ℕ) → e ≡ if_some f w
+        → IsLaid all (more (cells ++ Some w ∷ [])) h k → IsLaid (f && all) (on_pushed e cells more) h k
+    pushed true all e w cells more h k same behind = rw same behind
+    pushed false all e w cells more h k same behind = rw same refl
+
+    -- the cells for the values of these terms, in a memory whose cells are these
+    cells_laid : (ts : List Term) → ArePlain ts → (cells : List (Option Value)) (l : Mem) (i : ℕ) → i ≡ length cells → IsHeapOf cells l.heap
+        → IsLaid (all_fit vs (terms_of ts)) (with_values st.named cells ts) (laid 0 i (values_of ts) l).heap (i + length (values_of ts))
+    cells_laid [] plain cells l i ends heap = (cells, refl, heap, sym ends ∙ omega arith)
+    cells_laid (t ∷ ts) plain cells l i ends heap =
+        let T : Trm = trm [] xs t in
+        let w : Value = value vs T in
+        let behind : suc i ≡ length (cells ++ Some w ∷ []) = let one = length_push cells (Some w) in omega arith in
+        let here : IsHeapOf (cells ++ Some w ∷ []) (put l (Cell 0 i) (Some (own 0 w))).heap = rw ends (heap_push cells l.heap w heap) in
+        let rest = cells_laid ts plain.1 (cells ++ Some w ∷ []) (put l (Cell 0 i) (Some (own 0 w))) (suc i) behind here in
+        pushed (fits no_env vs T) (all_fit vs (terms_of ts)) (evaluated st.named t) w cells (λ more. with_values st.named more ts) (laid 0 i (values_of (t ∷ ts)) l).heap (i + length (values_of (t ∷ ts)))
+        (terms t plain.0).answer (counted (all_fit vs (terms_of ts)) _ _ (suc i + length (values_of ts)) (i + length (values_of (t ∷ ts))) (omega arith) rest)
+
+    alloc_at : (x : List ℕ) (us : List Value) (f : Bool) (o : Option (List (Option Value))) → IsLaid f o (laid 0 (m.made 0) us m).heap (m.made 0 + length us)
+        → Follows (on_cells o (λ cells. went (record { named = with_name st.named x (v.Loc (Cell 0 (length st.cells))); cells = cells }))) next
+        (step_at n m (Plain (if f then Alloc us else TermBig) (λ v. closed (is v ∷ vs) (next (x ∷ xs)))))
+    alloc_at x us true o h = rw h.1 (
       x ∷ xs,
       v.Loc (Cell 0 (m.made 0)) ∷ ws,
       _,
@@ -137,31 +173,32 @@ module _ (n : ℕ) (m : Mem) (next : Names → Code) where
       refl,
       record {
         named = λ q. rw stands.made (ap (λ o. cond (bytes_eq x q) (Some (v.Loc (Cell 0 (length st.cells)))) o) (stands.named q));
-        heap = rw stands.made (heap_push st.cells m.heap w stands.heap);
-        made = ap (λ i. i + 1) stands.made ∙ sym (length_push st.cells (Some w));
+        heap = h.2;
+        made = sym h.3;
       },
     )
+    alloc_at x us false o h = rw h refl
 
     -- a command of a program
-    module _ (spot : Spot) (f : Frame) (names : walk.Scope) (scope : Scope) (tells : Tells names scope) where
-      pub follows : (kind : StmtKind) → is_command kind ≡ true → Walked spot f names scope tells kind → Follows (carried kind st) next (step_at n m (closed vs (stmt_code [] kind xs next)))
+    module _ (f : Frame) (names : walk.Scope) (scope : Scope) (matches : Matches [] names scope) (spot : Spot) where
+      pub follows : (kind : StmtKind) → is_command kind ≡ true → Walked f names scope matches spot kind → Follows (carried kind st) next (step_at n m (closed vs (stmt_code [] kind xs next)))
       follows (s.Read x sort t i h p) c e =
           let T = trm [] xs t in
-          let plain = (read_walked spot f names scope tells x sort t i h p e).place.plain in
+          let plain = (read_walked f names scope matches spot x sort t i h p e).0 in
           one (fits no_env vs T) (evaluated st.named t) (value vs T) _ (Read sort (place_in (value vs T))) _ (terms t plain).answer
           (read_at (place_in (value vs T)) x sort _ refl (found_at (place_in (value vs T))))
       follows (s.Write t u i p) c e =
           let T = trm [] xs t in
           let U = trm [] xs u in
-          let walked = write_walked spot f names scope tells t u i p e in
+          let plain = write_walked f names scope matches spot t u i p e in
           two (fits no_env vs T) (fits no_env vs U) (evaluated st.named t) (evaluated st.named u) (value vs T) (value vs U) _ (Write (place_in (value vs T)) (value vs U)) _
-          (terms t walked.place.plain).answer (terms u walked.value.plain).answer (write_at (place_in (value vs T)) (value vs U) _ refl (found_at (place_in (value vs T))))
-      follows (s.Alloc x (t ∷ [])) c e =
-          let T = trm [] xs t in
-          one (fits no_env vs T) (evaluated st.named t) (value vs T) _ (Alloc (value vs T ∷ [])) _ (terms t (alloc_walked spot f names scope tells x t e).value.plain).answer (alloc_at x (value vs T))
+          (terms t plain.0).answer (terms u plain.1).answer (write_at (place_in (value vs T)) (value vs U) _ refl (found_at (place_in (value vs T))))
+      follows (s.Alloc x ts) c e =
+          let so = cells_laid ts (alloc_walked f names scope matches spot x ts e).0 st.cells m (m.made 0) stands.made stands.heap in
+          alloc_at x (values_of ts) (all_fit vs (terms_of ts)) (with_values st.named st.cells ts) so
       follows (s.Free t i p) c e =
           let T = trm [] xs t in
-          one (fits no_env vs T) (evaluated st.named t) (value vs T) _ (Free (place_in (value vs T))) _ (terms t (free_walked spot f names scope tells t i p e).place.plain).answer
+          one (fits no_env vs T) (evaluated st.named t) (value vs T) _ (Free (place_in (value vs T))) _ (terms t (free_walked f names scope matches spot t i p e).0).answer
           (free_at (place_in (value vs T)) _ refl (found_at (place_in (value vs T))))
       follows (s.Proof x) c e = cc
       follows _ c e = free_at Null None refl (found_at Null)

@@ -19,14 +19,14 @@ use Rattle.tht_tree.specs.Layout.{layout}
 use Rattle.tht_grammar.proofs.TextFaults.{one_split_fault, one_spelling_fault, not_both}
 use Rattle.tht_front.specs.Refusals.{lex_fault, text_fault}
 use Rattle.tht_front.proofs.Answering.{spelled_in, none_at_fault, none_refused, none_out_of_order}
-use Rattle.tht_tree.specs.Runs.{start_of}
-use Rattle.tht_tree.specs.CommandLine.{budget, status_of, input_limit, Reports, Takes, Accepts, IsFirstFault, SaysFault, RefusesText, RefusesNames, FileAnswers, Answers}
+use Rattle.tht_logic.specs.Runs.{start_of}
+use Rattle.tht_logic.specs.CommandLine.{budget, status_of, input_limit, Reports, Takes, Accepts, IsFirstFault, SaysFault, RefusesText, RefusesNames, FileAnswers, Answers}
 use Rattle.tht_tree.specs.declared.walk.WalkRefusal.{WalkRefusal}
 use Rattle.tht_tree.specs.declared.rule.RuleRefusal.{RuleRefusal}
-use Rattle.tht_tree.specs.Built.{is_built}
+use Rattle.tht_logic.specs.Built.{is_built}
 use Rattle.tht_tree.specs.Walk.Files.{first_refusal}
 use Rattle.tht_tree.specs.Lines.{walk_line, rule_line}
-use Rattle.tht_tree.specs.Rules.Files.{IsAccepted, rule_refusal}
+use Rattle.tht_logic.specs.Rules.Files.{IsAccepted, first_rule_refusal}
 use Rattle.tht_front.proofs.Lowest.{one_run, some_same}
 
 -- ---- a file has one report
@@ -42,7 +42,7 @@ one_report file s t o p a b =
 
 -- the answer of `run`: a refusal by a rule, or a report
 abbrev Said : Source1 → Status → List ℕ → Type 0
-Said file s o = ((s ≡ Rule) × ((r : RuleRefusal) × (rule_refusal file ≡ Some r) × (o ≡ rule_line r))) ⊎ (IsAccepted file × Reports file s o)
+Said file s o = ((s ≡ Rule) × ((r : RuleRefusal) × (first_rule_refusal file ≡ Some r) × (o ≡ rule_line r))) ⊎ (IsAccepted file × Reports file s o)
 
 said : (file : Source1) (s : Status) (o : List ℕ) → Accepts Run file s o → Said file s o
 said file Rule o a = inl (refl, a)

@@ -1,5 +1,5 @@
 -- What the runner's fields stand for, and what its answers mean.
-use Rattle.std.specs.Prelude.{◌≡◌, Option, Some, None}
+use Rattle.std.specs.Prelude.{◌≡◌, Bool, true, false, List, Option, Some, None}
 use Rattle.tht_tree.specs.declared.plain.Value.{Value}
 use Rattle.tht_tree.specs.declared.term.Term.{Term}
 use Rattle.tht_tree.specs.declared.term.Term.TheVariants as term
@@ -21,6 +21,11 @@ abbrev pub Becomes : Carried → Outcome → Store → Type 0
 Becomes what Went new = what ≡ went new
 Becomes what Big new = what ≡ too_big
 Becomes what Fault new = what ≡ fault
+
+-- whether the values of an `alloc` fit, and the cells with them
+abbrev pub Lays : Bool → Option (List (Option Value)) → List (Option Value) → Type 0
+Lays true what new = what ≡ Some new
+Lays false what new = what ≡ None
 
 -- the term that an end returns; one that is not built yet returns ()
 abbrev pub returned : EndKind → Term

@@ -2,9 +2,9 @@
 use Rattle.std.specs.Prelude.{◌≡◌, ℕ, List, [], Some, replicate}
 use Rattle.tht_tree.specs.declared.file.Source1.{Source1}
 use Rattle.tht_tree.specs.declared.run.End.{End}
-use Rattle.tht_tree.specs.Machine.{step_of}
-use Rattle.tht_tree.specs.Runs.{State, start_of, run_of, cost_of, GoesLowest}
-use Rattle.tht_tree.specs.Soundness.{IsSafe}
+use Rattle.tht_logic.specs.Machine.{step_of}
+use Rattle.tht_logic.specs.Runs.{State, start_of, run_of, cost_of, GoesLowest}
+use Rattle.tht_logic.specs.Soundness.{IsSafe}
 use Rattle.tht_front.specs.declared.course.Course.{Course}
 use Rattle.tht_front.specs.declared.course.Course.TheVariants.{Ended, Faulted}
 

@@ -14,10 +14,10 @@ use Rattle.tht_tree.specs.Faults as fault
 use Rattle.tht_tree.specs.Texts.{fault_text}
 use Rattle.tht_tree.specs.Layout.{layout}
 use Rattle.tht_tree.specs.declared.walk.WalkRefusal.{WalkRefusal}
-use Rattle.tht_tree.specs.Built.{is_built}
+use Rattle.tht_logic.specs.Built.{is_built}
 use Rattle.tht_tree.specs.Walk.Files.{first_refusal, WellSorted}
 use Rattle.tht_tree.specs.Lines.{walk_line}
-use Rattle.tht_tree.specs.CommandLine.{Accepts}
+use Rattle.tht_logic.specs.CommandLine.{Accepts}
 use Rattle.tht_parse.specs.declared.end.ParseEnd.{ParseEnd}
 use Rattle.tht_parse.specs.declared.end.ParseEnd.TheVariants as end
 use Rattle.tht_front.specs.Decided.{is_past_text}

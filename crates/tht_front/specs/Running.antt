@@ -115,9 +115,25 @@ abbrev pub after_write : Store → Term → Term → Carried
 after_write st t u = on_value (evaluated st.named t) (λ a. on_value (evaluated st.named u) (λ w.
     on_cell (held st.cells (place_in a)) (λ old. went (with_cell st (place_in a) (Some w)))))
 
-abbrev pub after_alloc : Store → List ℕ → Term → Carried
-after_alloc st x t = on_value (evaluated st.named t) (λ w.
-    went (record { named = with_name st.named x (v.Loc (Cell 0 (length st.cells))); cells = st.cells ++ Some w ∷ [] }))
+-- goes on with the cells, where each new value fits
+abbrev pub on_cells : Option (List (Option Value)) → (List (Option Value) → Carried) → Carried
+on_cells None go = too_big
+on_cells (Some cells) go = go cells
+
+-- a new cell behind these, if its value fits
+abbrev pub on_pushed : Option Value → List (Option Value) → (List (Option Value) → Option (List (Option Value))) → Option (List (Option Value))
+on_pushed None cells go = None
+on_pushed (Some w) cells go = go (cells ++ Some w ∷ [])
+
+-- the cells, with those that hold the values of these terms behind them, from left to right, if all values fit
+abbrev pub with_values : Named → List (Option Value) → List Term → Option (List (Option Value))
+with_values named cells [] = Some cells
+with_values named cells (t ∷ ts) = on_pushed (evaluated named t) cells (λ more. with_values named more ts)
+
+-- the name has the place of the first of the new cells
+abbrev pub after_alloc : Store → List ℕ → List Term → Carried
+after_alloc st x ts = on_cells (with_values st.named st.cells ts) (λ cells.
+    went (record { named = with_name st.named x (v.Loc (Cell 0 (length st.cells))); cells = cells }))
 
 abbrev pub after_free : Store → Term → Carried
 after_free st t = on_value (evaluated st.named t) (λ a. on_cell (held st.cells (place_in a)) (λ w. went (with_cell st (place_in a) None)))
@@ -126,7 +142,7 @@ after_free st t = on_value (evaluated st.named t) (λ a. on_cell (held st.cells 
 abbrev pub carried : StmtKind → Store → Carried
 carried (s.Read x sort t i h p) st = after_read st x sort t
 carried (s.Write t u i p) st = after_write st t u
-carried (s.Alloc x (t ∷ [])) st = after_alloc st x t
+carried (s.Alloc x ts) st = after_alloc st x ts
 carried (s.Free t i p) st = after_free st t
 carried _ st = fault
 

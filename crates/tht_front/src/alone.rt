@@ -1,7 +1,7 @@
 // The top call.
 ghost use Rattle.std.specs.Prelude.{◌≡◌, ◌≢◌, ◌<◌, ◌⊎◌, length, List, ℕ, map, string_bytes, IsTrue, None, Some, IfSome, IfOk, IsErrOf};
 ghost use Rattle.std.specs.Io.KnownBytes.{Keeps};
-ghost use Rattle.tht_tree.specs.CommandLine.{asked, Answers, EndsSo, FileAnswers, HasAnswered, HasInput, IsRefused, IsOutOfOrder, RunHasEnded, TakesNone, ends_a_run, input_limit};
+ghost use Rattle.tht_logic.specs.CommandLine.{asked, Answers, EndsSo, FileAnswers, HasAnswered, HasInput, IsRefused, IsOutOfOrder, RunHasEnded, TakesNone, ends_a_run, input_limit};
 ghost use Rattle.tht_ports.specs.Causes.{Rose};
 
 use crate::answer::{answer_to, line};

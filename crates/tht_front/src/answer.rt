@@ -1,10 +1,11 @@
 // What is answered to the words and the input.
 ghost use Rattle.std.specs.Prelude.{◌≡◌, ◌≤◌, length, true, IfOk, IsTrue};
-ghost use Rattle.tht_tree.specs.CommandLine.{Accepts, FileAnswers, budget, status_of as status_said};
-ghost use Rattle.tht_tree.specs.Built.{is_built as built};
+ghost use Rattle.tht_logic.specs.CommandLine.{Accepts, FileAnswers, budget, status_of as status_said};
+ghost use Rattle.tht_logic.specs.Built.{is_built as built};
 ghost use Rattle.tht_tree.specs.Walk.Files.{WellSorted};
-ghost use Rattle.tht_tree.specs.Rules.Files.{IsAccepted};
+ghost use Rattle.tht_logic.specs.Rules.Files.{IsAccepted, declared_in, main_post};
 ghost use Rattle.tht_tree.specs.Layout.{layout};
+ghost use Rattle.heap_rules.specs.Declarations.{declared_by};
 ghost use Rattle.tht_front.specs.Refusals.{fault_in, AnswersTo, IsLineOf};
 ghost use Rattle.tht_front.specs.Decided.{is_decided, is_past_text};
 ghost use Rattle.tht_front.specs.Outcomes.{RunEnds};
@@ -14,13 +15,13 @@ use crate::decided::Answer;
 use crate::lines::{rule_line, walk_line};
 use crate::report::{Ran, report};
 use crate::run::run;
-use hoare_rules::{Refusal, body_holds, is_built};
+use hoare_rules::{Predicates, Refusal, body_holds, is_built};
 use name_walk::files::{WalkEnd, well_sorted};
 use std::alloc::{AllocError, Global};
 use tht_parse::{ParseEnd, parse};
 use tht_print::print;
 use tht_tree::command::Reader;
-use tht_tree::file::{Main, Source1};
+use tht_tree::file::Source1;
 use tht_tree::plain::Spot;
 use tht_tree::run::End;
 use tht_tree::state::{Post, State};
@@ -136,8 +137,10 @@ fn checked(alloc: Global, file: &Source1) -> Result<Answer, AllocError>
     ensures output { IfOk result (λ answer. Accepts Reader.Run file.now answer.status answer.output.items) }
     ensures status { IfOk result (λ answer. IsTrue (is_past_text answer.status)) }
 {
-    let post = post_of(alloc, &file.main)?;
-    match body_holds(alloc, State::new(alloc), file.main.body.get(), &post) {
+    let post = post_of(alloc, file)?;
+    let predicates = predicates_of(alloc, file)?;
+    let state = State::new(alloc);
+    match body_holds(alloc, &predicates, state, file.main.body.get(), &post) {
         Ok(()) => accepted(alloc, file),
         Err(Refusal::Rule(refusal)) => rule_line(alloc, refusal),
         Err(Refusal::Memory) => Err(AllocError),
@@ -145,16 +148,23 @@ fn checked(alloc: Global, file: &Source1) -> Result<Answer, AllocError>
 }
 
 // Main's postcondition.
-fn post_of(alloc: Global, main: &Main) -> Result<Post, AllocError>
-    ensures { IfOk result (λ post. (post.result ≡ main.now.result) × (post.sort ≡ main.now.sort) × (post.assn ≡ main.now.post)) }
+fn post_of(alloc: Global, file: &Source1) -> Result<Post, AllocError>
+    ensures { IfOk result (λ post. post ≡ main_post file.now) }
 {
-    let result = main.result.copy()?;
-    let assn = main.post.copy(alloc).map_err(|_| AllocError)?;
+    let result = file.main.result.copy()?;
+    let assn = file.main.post.copy(alloc).map_err(|_| AllocError)?;
     Ok(Post {
         result,
-        sort: main.sort,
+        sort: file.main.sort,
         assn,
     })
+}
+
+// The predicates of a file by their names.
+fn predicates_of(alloc: Global, file: &Source1) -> Result<Predicates<'_>, AllocError>
+    ensures { IfOk result (λ predicates. declared_by predicates ≡ declared_in file.now) }
+{
+    Predicates::new(alloc, file.decls.as_slice()).map_err(|_| AllocError)
 }
 
 // The answer of `run` to a file that is accepted.

@@ -3,7 +3,7 @@ ghost use Rattle.std.specs.Prelude.{◌≡◌, List, ℕ};
 ghost use Rattle.std.specs.declared.option.Option.{Option};
 ghost use Rattle.tht_tree.specs.declared.status.Status.{Status};
 ghost use Rattle.tht_tree.specs.declared.command.Command.{Command};
-ghost use Rattle.tht_tree.specs.CommandLine.{Answers};
+ghost use Rattle.tht_logic.specs.CommandLine.{Answers};
 
 /// Words and input have one status and one output.
 pub fn one_answer()

@@ -1,6 +1,6 @@
 // Runs of a file on one branch.
 ghost use Rattle.std.specs.Prelude.{◌≡◌, true, IfOk};
-ghost use Rattle.tht_tree.specs.Built.{is_built};
+ghost use Rattle.tht_logic.specs.Built.{is_built};
 ghost use Rattle.tht_tree.specs.Walk.Files.{WellSorted};
 ghost use Rattle.tht_front.specs.Running.{evaluated, is_command as command_in};
 ghost use Rattle.tht_front.specs.Carrying.{end_said, returned, store_of};

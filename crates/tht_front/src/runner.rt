@@ -1,7 +1,8 @@
 // The machine of one branch, over the trees.
 ghost use Rattle.std.specs.Prelude.{◌≡◌, [], None, IfOk, OnOk, IsSome, slice_set};
 ghost use Rattle.tht_tree.specs.Values.{has_sort as sort_is, place_in};
-ghost use Rattle.tht_front.specs.Running.{after_alloc, after_free, after_read, after_write, carried, evaluated, held as held_in, index_of, values_in, with_name};
+ghost use Rattle.tht_front.specs.Running.{after_alloc, after_free, after_read, after_write, carried, evaluated, held as held_in, index_of, values_in, with_name, with_values};
+ghost use Rattle.tht_front.specs.Carrying.{Lays};
 
 use crate::values::evaluate;
 use std::alloc::{AllocError, Global};
@@ -52,10 +53,7 @@ impl Runner {
         match kind {
             StmtKind::Read(x, sort, place, _, _, _) => self.read(x, *sort, place.get()),
             StmtKind::Write(place, value, _, _) => Ok(self.write(place.get(), value.get())),
-            StmtKind::Alloc(x, cells) => match cells.as_slice() {
-                [value] => self.alloc(x, value),
-                _ => Ok(Outcome::Fault),
-            },
+            StmtKind::Alloc(x, values) => self.alloc(x, values.as_slice()),
             StmtKind::Free(place, _, _) => Ok(self.free(place.get())),
             _ => Ok(Outcome::Fault),
         }
@@ -92,19 +90,15 @@ impl Runner {
         Outcome::Went
     }
 
-    fn alloc(&mut self, x: &Name, value: &Term) -> Result<Outcome, AllocError>
-        ensures { IfOk result (λ outcome. Becomes (after_alloc (store_of self.old) x.now value.now) outcome (store_of self.new)) }
+    fn alloc(&mut self, x: &Name, values: &[Term]) -> Result<Outcome, AllocError>
+        ensures { IfOk result (λ outcome. Becomes (after_alloc (store_of self.old) x.now values.now) outcome (store_of self.new)) }
     {
-        let Some(first) = evaluate(value, &self.names) else {
-            return Ok(Outcome::Big);
-        };
         let index = self.cells.len() as u64;
-        bind(
-            &mut self.names,
-            x,
-            Value::Loc(Place::Cell { arena: 0, index }),
-        )?;
-        self.cells.push(Some(first))?;
+        if !lay(&mut self.cells, values, &self.names)? {
+            return Ok(Outcome::Big);
+        }
+        let first = Value::Loc(Place::Cell { arena: 0, index });
+        bind(&mut self.names, x, first)?;
         Ok(Outcome::Went)
     }
 
@@ -133,6 +127,25 @@ fn held(cells: &[Option<Value>], at: Value) -> Option<Value>
         },
         _ => None,
     }
+}
+
+// Adds a cell for the value of each term, from left to right, and says whether all of them fit. Where one does not, those before it
+// have their cells.
+#[tactic(auto, using(crate::proofs::Laying::one_laid, crate::proofs::Laying::big_laid, crate::proofs::Laying::all_laid))]
+fn lay(
+    cells: &mut Vec<Option<Value>>,
+    values: &[Term],
+    names: &BTreeMap<String, Value>,
+) -> Result<bool, AllocError>
+    ensures { IfOk result (λ fit. Lays fit (with_values (values_in names.now) cells.old.items values.now) cells.new.items) }
+{
+    for term in values {
+        let Some(value) = evaluate(term, names) else {
+            return Ok(false);
+        };
+        cells.push(Some(value))?;
+    }
+    Ok(true)
 }
 
 // Sets the cell at this place, which is there.

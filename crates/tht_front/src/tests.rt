@@ -1,7 +1,11 @@
 // The worked cases of the top call, over a source and a sink in memory.
+mod assertions;
+mod gives;
 mod limits;
 mod names;
+mod results;
 mod rules;
+mod steps;
 
 use crate::tht_alone;
 use crate::values::evaluate;
@@ -77,8 +81,8 @@ fn each_source_has_its_status_and_output(rt: HostRuntime) -> Result<(), Fail> {
         ),
         (
             b"tht 1\nmain r : nat { [r = 7] } { ret 7 by [calc] }\n",
-            Status::Text,
-            b"text later\n",
+            Status::Done,
+            b"end done\nresult 7\nevents 0\ncost 0\naborts 0\norder\n",
         ),
         (
             b"tht 1 main r : nat { emp } { ret x by emp }",

@@ -1,6 +1,6 @@
 // The words of the command line.
 ghost use Rattle.std.specs.Prelude.{◌≡◌, map, string_bytes};
-ghost use Rattle.tht_tree.specs.CommandLine.{asked};
+ghost use Rattle.tht_logic.specs.CommandLine.{asked};
 
 use tht_tree::command::{Command, Reader};
 

@@ -1,4 +1,5 @@
 // Sources that are read and first faults of others, worked out by hand.
+mod copies;
 mod limits;
 
 use crate::{ParseEnd, parse};

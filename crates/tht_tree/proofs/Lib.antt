@@ -1,16 +1,5 @@
-pub mod Said
-pub mod Fewer
-pub mod HeapLaws
 pub mod Cells
-pub mod Parts
-pub mod Acts
-pub mod Outside
-pub mod Numbers
-pub mod Local
-pub mod Moves
-pub mod Runs
 pub mod TermFolds
-pub mod AssnFolds
 pub mod TermInduction
 pub mod TermValues
 pub mod SameTerm

@@ -7,9 +7,6 @@ pub mod WithoutSpots
 pub mod Levels
 pub mod Heaps
 pub mod Satisfaction
-pub mod Machine
-pub mod Runs
-pub mod Soundness
 pub mod Tokens
 pub mod Splitting
 pub mod Productions
@@ -19,9 +16,7 @@ pub mod Spelling
 pub mod Layout
 pub mod Rules
 pub mod Normal
-pub mod Bodies
-pub mod Built
+pub mod Statuses
 pub mod Texts
 pub mod Lines
 pub mod Walk
-pub mod CommandLine

@@ -1,13 +1,9 @@
 pub mod Sizes
 pub mod Context
 pub mod Scoping
-pub mod Formed
 pub mod Refusals
 pub mod Shapes
 pub mod Known
 pub mod Inequalities
 pub mod Certificates
 pub mod Proofs
-pub mod Commands
-pub mod Bodies
-pub mod Files

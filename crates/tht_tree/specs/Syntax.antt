@@ -1,21 +1,9 @@
--- Terms, assertions and programs with bound variables by position: which names an author gave them is gone, and so are
--- proofs, gives, postconditions and the numbers of atoms. The name of a root is its place. Assertions, statements and ends that
--- are not named here are not built yet, and no file with one is accepted: such a statement frees what is no cell, a fault.
+-- Terms with bound variables by position: which names an author gave them is gone. The name of a root is its place.
 use Rattle.std.specs.Prelude.{ℕ, suc, true, false, bytes_eq, List, [], ◌∷◌, Option, Some, None, if◌then◌else◌}
 use Rattle.tht_tree.specs.declared.plain.Place.TheVariants.{Null, Root}
-use Rattle.tht_tree.specs.declared.plain.Sort.{Sort}
 use Rattle.tht_tree.specs.declared.plain.Value.TheVariants as v
 use Rattle.tht_tree.specs.declared.term.Term.{Term, fold-Term}
 use Rattle.tht_tree.specs.declared.term.Term.TheOpen as t
-use Rattle.tht_tree.specs.declared.assn.Assn.{Assn}
-use Rattle.tht_tree.specs.declared.assn.Assn.TheVariants as a
-use Rattle.tht_tree.specs.declared.body.Body.{Body, out-Body}
-use Rattle.tht_tree.specs.declared.body.Stmt.{Stmt}
-use Rattle.tht_tree.specs.declared.body.StmtKind.{StmtKind}
-use Rattle.tht_tree.specs.declared.body.StmtKind.TheVariants as s
-use Rattle.tht_tree.specs.declared.body.EndKind.{EndKind}
-use Rattle.tht_tree.specs.declared.body.EndKind.TheVariants as e
-use Rattle.tht_tree.specs.declared.file.Source1.{Source1}
 use Rattle.tht_tree.specs.Values.{Val, is, seq, a_nat, a_bool, a_place}
 
 pub data Op : Type 0 where
@@ -41,26 +29,9 @@ pub data Trm : Type 0 where
   neg : Trm → Trm
   op : Op → Trm → Trm → Trm
 
--- an assertion: the empty heap, or one private cell at a place with a value
-pub data Asn : Type 0 where
-  emp : Asn
-  own : Trm → Trm → Asn
-
--- a program: each statement with what follows it
-pub data Code : Type 0 where
-  ret : Trm → Code
-  read : Sort → Trm → Code → Code
-  write : Trm → Trm → Code → Code
-  alloc : List Trm → Code → Code
-  drop : Trm → Code → Code
-
 -- names: those that are bound, the innermost first, or those of the roots, in their order
 abbrev pub Names : Type 0
 Names = List (List ℕ)
-
--- the names of the roots of a file: one of the forms that are built declares none
-abbrev pub root_names : Source1 → Names
-root_names file = []
 
 -- where a name stands in a list, from k on
 abbrev pub position : ℕ → Names → List ℕ → Option ℕ
@@ -102,36 +73,3 @@ trm_at roots xs (t.Imp a b) = op imp a b
 -- the term, where these are the roots and these names are bound
 abbrev pub trm : Names → Names → Term → Trm
 trm roots xs = fold-Term Trm (trm_at roots xs)
-
-abbrev pub asn : Names → Names → Assn → Asn
-asn roots xs a.Emp = emp
-asn roots xs (a.Own t u) = own (trm roots xs t) (trm roots xs u)
-asn roots xs _ = emp
-
--- a statement and what follows it, where these are the roots and these names are bound
-abbrev pub stmt_code : Names → StmtKind → Names → (Names → Code) → Code
-stmt_code roots (s.Read x sort t i h p) xs next = read sort (trm roots xs t) (next (x ∷ xs))
-stmt_code roots (s.Write t u i p) xs next = write (trm roots xs t) (trm roots xs u) (next xs)
-stmt_code roots (s.Alloc x (t ∷ [])) xs next = alloc (trm roots xs t ∷ []) (next (x ∷ xs))
-stmt_code roots (s.Free t i p) xs next = drop (trm roots xs t) (next xs)
-stmt_code roots (s.Proof x) xs next = next xs
-stmt_code roots _ xs next = drop (lit (is v.Unit)) (next xs)
-
-abbrev pub stmts_code : Names → List Stmt → (Names → Code) → Names → Code
-stmts_code roots [] last xs = last xs
-stmts_code roots (s ∷ ss) last xs = stmt_code roots s.kind xs (stmts_code roots ss last)
-
-abbrev pub end_code : Names → EndKind → Names → Code
-end_code roots (e.Ret t g) xs = ret (trm roots xs t)
-end_code roots _ xs = ret (lit (is v.Unit))
-
--- the statements of a body, and its end
-abbrev pub stmts_of : Body → List Stmt
-stmts_of body = (out-Body body).stmts
-
-abbrev pub end_of : Body → EndKind
-end_of body = (out-Body body).end.kind
-
--- the program of a body, where these are the roots and these names are bound
-abbrev pub code : Names → Body → Names → Code
-code roots body xs = stmts_code roots (stmts_of body) (end_code roots (end_of body)) xs

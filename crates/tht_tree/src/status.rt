@@ -1,6 +1,6 @@
 // How the program ends.
 ghost use Rattle.std.specs.Prelude.{◌≡◌};
-ghost use Rattle.tht_tree.specs.CommandLine.{number_of};
+ghost use Rattle.tht_tree.specs.Statuses.{number_of};
 
 /// How the program ends. The numbers 11 to 13 are kept for statuses that no command has yet.
 #[derive(Clone, Copy, Debug, PartialEq, Eq)]

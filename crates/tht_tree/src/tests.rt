@@ -1,13 +1,9 @@
-// The calls on trees, once each, with values worked out by hand.
+// The calls on terms, assertions and plain types, once each, with values worked out by hand. Larger trees are copied and compared
+// where they can be read from a text, in the tests of the parser.
 use crate::assn::{Assn, assn_levels, assn_size, same_assn};
-use crate::body::{Body, Cells, End, EndKind, Stmt, StmtKind};
-use crate::decl::{Access, Decl, DeclKind, Param};
-use crate::file::{Main, Source1, same_tree};
-use crate::give::{Give, GiveKind, same_give};
-use crate::plain::{Name, Sort, Spot};
-use crate::proof::{Proof, ProofKind};
+use crate::body::Cells;
+use crate::plain::Name;
 use crate::status::Status;
-use crate::step::{Step, StepKind};
 use crate::term::{Term, same_term, term_levels, term_size};
 use sqlite_items::{Boxed, Items};
 use std::alloc::{AllocError, Global};
@@ -16,12 +12,8 @@ use std::test::Fail;
 // 98 parentheses around chains of 64 operators, at five levels of precedence: the deepest term of a source.
 const DEEPEST_TERM: u64 = 98 * 64 * 5;
 
-// 98 parentheses around chains of 64 stars: the deepest assertion or give.
+// 98 parentheses around chains of 64 stars: the deepest assertion.
 const DEEPEST_STAR: u64 = 98 * 64;
-
-const HERE: Spot = Spot { line: 1, column: 1 };
-
-const THERE: Spot = Spot { line: 7, column: 4 };
 
 fn name(alloc: Global, text: &str) -> Result<Name, AllocError> {
     Ok(Name::new(text.to_string(alloc)?))
@@ -48,108 +40,6 @@ fn star(alloc: Global, left: Assn, right: Assn) -> Result<Assn, AllocError> {
     Ok(Assn::Star(Boxed::new(alloc, left)?, Boxed::new(alloc, right)?))
 }
 
-fn emp(spot: Spot) -> Give {
-    Give {
-        spot,
-        kind: GiveKind::Emp,
-    }
-}
-
-fn both(alloc: Global, left: Give, right: Give) -> Result<Give, AllocError> {
-    let (left, right) = (Boxed::new(alloc, left)?, Boxed::new(alloc, right)?);
-    Ok(Give {
-        spot: HERE,
-        kind: GiveKind::Star(left, right),
-    })
-}
-
-// sym refl
-fn proof(alloc: Global, spot: Spot) -> Result<Proof, AllocError> {
-    let refl = Proof {
-        spot,
-        kind: ProofKind::Refl,
-    };
-    Ok(Proof {
-        spot,
-        kind: ProofKind::Sym(Boxed::new(alloc, refl)?),
-    })
-}
-
-// have h : number by sym refl
-fn step(alloc: Global, spot: Spot, number: u128) -> Result<Step, AllocError> {
-    let fact = Boxed::new(alloc, Term::Num(number))?;
-    Ok(Step {
-        spot,
-        kind: StepKind::Have(name(alloc, "h")?, fact, proof(alloc, spot)?),
-    })
-}
-
-// { step; ret () by emp }
-fn body(alloc: Global, spot: Spot, step: Step) -> Result<Body, AllocError> {
-    let mut stmts = Items::new(alloc);
-    stmts.push(Stmt {
-        spot,
-        kind: StmtKind::Proof(step),
-    })?;
-    let value = Boxed::new(alloc, Term::Unit)?;
-    Ok(Body {
-        stmts,
-        end: End {
-            spot,
-            kind: EndKind::Ret(value, emp(spot)),
-        },
-    })
-}
-
-// pred p (n : nat) = emp;
-fn pred(alloc: Global, spot: Spot) -> Result<Decl, AllocError> {
-    let mut params = Items::new(alloc);
-    params.push(Param {
-        name: name(alloc, "n")?,
-        sort: Sort::Nat,
-    })?;
-    Ok(Decl {
-        spot,
-        kind: DeclKind::Pred(Access::Private, name(alloc, "p")?, params, Assn::Emp),
-    })
-}
-
-fn preds(alloc: Global, spot: Spot) -> Result<Items<Decl>, AllocError> {
-    let mut decls = Items::new(alloc);
-    decls.push(pred(alloc, spot)?)?;
-    Ok(decls)
-}
-
-fn proving(alloc: Global, spot: Spot, number: u128) -> Result<Boxed<Body>, AllocError> {
-    let step = step(alloc, spot, number)?;
-    let body = body(alloc, spot, step)?;
-    Boxed::new(alloc, body)
-}
-
-fn main_of(alloc: Global, spot: Spot, number: u128) -> Result<Main, AllocError> {
-    let result = name(alloc, "r")?;
-    let body = proving(alloc, spot, number)?;
-    Ok(Main {
-        spot,
-        result,
-        sort: Sort::Unit,
-        post: Assn::Emp,
-        body,
-    })
-}
-
-// The predicate, and a main that proves a fact about this number.
-fn file_at(alloc: Global, spot: Spot, number: u128) -> Result<Source1, AllocError> {
-    let decls = preds(alloc, spot)?;
-    let main = main_of(alloc, spot, number)?;
-    Ok(Source1 {
-        version: 1,
-        decls,
-        main,
-    })
-}
-
-// (x + 1) + ()
 fn small(alloc: Global, x: &str) -> Result<Term, AllocError> {
     let inner = sum(alloc, var(alloc, x)?, Term::Num(1))?;
     sum(alloc, inner, Term::Unit)
@@ -221,37 +111,6 @@ fn new_cells_are_a_list(rt: HostRuntime) -> Result<(), Fail> {
 }
 
 #[test]
-fn parts_of_files_are_copied(rt: HostRuntime) -> Result<(), Fail> {
-    let alloc = rt.alloc();
-    let _ = proof(alloc, HERE)?.copy(alloc).map_err(no_memory)?;
-    let _ = pred(alloc, HERE)?.copy(alloc).map_err(no_memory)?;
-    let step = step(alloc, HERE, 1)?;
-    let copy = step.copy(alloc).map_err(no_memory)?;
-    let body = body(alloc, HERE, copy)?.copy(alloc).map_err(no_memory)?;
-    assert_eq!(rt; body.stmts.len(), 1);
-    Ok(())
-}
-
-fn is_same_as_its_copy(alloc: Global, file: &Source1) -> Result<bool, AllocError> {
-    let copy = file.copy(alloc).map_err(no_memory)?;
-    Ok(same_tree(file, &copy) && copy.main.spot == file.main.spot)
-}
-
-fn is_same_as(alloc: Global, file: &Source1, spot: Spot, number: u128) -> Result<bool, AllocError> {
-    let other = file_at(alloc, spot, number)?;
-    Ok(same_tree(file, &other))
-}
-
-#[test]
-fn files_are_the_same_wherever_they_stand(rt: HostRuntime) -> Result<(), Fail> {
-    let here = file_at(rt.alloc(), HERE, 5)?;
-    assert!(rt; is_same_as_its_copy(rt.alloc(), &here)?);
-    assert!(rt; is_same_as(rt.alloc(), &here, THERE, 5)?);
-    assert!(rt; !is_same_as(rt.alloc(), &here, HERE, 6)?);
-    Ok(())
-}
-
-#[test]
 fn the_deepest_term_fits_the_stack(rt: HostRuntime) -> Result<(), Fail> {
     let alloc = rt.alloc();
     let mut term = Term::Num(0);
@@ -276,26 +135,6 @@ fn the_deepest_assertion_fits_the_stack(rt: HostRuntime) -> Result<(), Fail> {
     assert!(rt; same_assn(&assn, &copy));
     assert_eq!(rt; assn_size(&copy), 2 * DEEPEST_STAR + 1);
     assert_eq!(rt; assn_levels(&copy), DEEPEST_STAR + 1);
-    Ok(())
-}
-
-fn deepest_give(alloc: Global) -> Result<Give, AllocError> {
-    let mut give = emp(HERE);
-    for _ in 0..DEEPEST_STAR {
-        give = both(alloc, give, emp(HERE))?;
-    }
-    Ok(give)
-}
-
-fn is_copied(alloc: Global, give: &Give) -> Result<bool, AllocError> {
-    let copy = give.copy(alloc).map_err(no_memory)?;
-    Ok(same_give(give, &copy))
-}
-
-#[test]
-fn the_deepest_give_fits_the_stack(rt: HostRuntime) -> Result<(), Fail> {
-    let give = deepest_give(rt.alloc())?;
-    assert!(rt; is_copied(rt.alloc(), &give)?);
     Ok(())
 }
 

@@ -81,6 +81,66 @@ const REFUSED: &[(&str, &str)] = &[
         "tht 1\nmain r : seq { emp } { ret 0 by emp }",
         "sorts 2:1 S5\n",
     ),
+    (
+        "tht 1\npred p () = q();\npred q () = emp;\nmain r : nat { emp } { ret 0 by emp }",
+        "names 2:1 N1\n",
+    ),
+    (
+        "tht 1\npred p () = emp;\npred p () = emp;\nmain r : nat { emp } { ret 0 by emp }",
+        "names 3:1 N2\n",
+    ),
+    (
+        "tht 1\nmain r : nat { exists r : nat . emp } { ret 0 by emp }",
+        "names 2:1 N2\n",
+    ),
+    (
+        "tht 1\npred p (x : nat) = emp;\nmain r : nat { p() } { ret 0 by emp }",
+        "names 3:1 N4\n",
+    ),
+    (
+        "tht 1\npred p (x : nat) = p();\nmain r : nat { emp } { ret 0 by emp }",
+        "names 2:1 N4\n",
+    ),
+    (
+        "tht 1\npred p () = p();\nmain r : nat { emp } { ret 0 by emp }",
+        "names 2:1 N7\n",
+    ),
+    (
+        "tht 1\nmain r : nat { emp } {\nopen 1 as x : nat;\nret x by emp }",
+        "sorts 4:1 S2\n",
+    ),
+    (
+        "tht 1\npred p (s : seq) = null -> s;\nmain r : nat { emp } { ret 0 by emp }",
+        "sorts 2:1 S5\n",
+    ),
+    (
+        "tht 1\nmain r : nat { emp } {\nx <- alloc (1, true, y);\nret 0 by emp }",
+        "names 3:1 N1\n",
+    ),
+    (
+        "tht 1\nmain r : nat { emp } {\nfold q() by emp;\nret 0 by emp }",
+        "names 3:1 N1\n",
+    ),
+    (
+        "tht 1\nmain r : nat { emp } {\nret 0 by\n  ex [y] emp }",
+        "names 4:3 N1\n",
+    ),
+    (
+        "tht 1\nmain r : nat { emp } {\nopen 1 as h;\nopen 2 as h;\nret 0 by emp }",
+        "names 4:1 N2\n",
+    ),
+    (
+        "tht 1\npred q (x : nat) = emp;\nmain r : nat { emp } {\nfold q(true) by emp;\nret 0 by emp }",
+        "sorts 4:1 S1\n",
+    ),
+    (
+        "tht 1\nmain r : nat { [r] } { ret 0 by emp }",
+        "sorts 2:1 S1\n",
+    ),
+    (
+        "tht 1\nmain r : nat { exists x : nat . x -> 1 } { ret 0 by emp }",
+        "sorts 2:1 S1\n",
+    ),
 ];
 
 // Sources that have a form that is not built yet. That is said first, though their names or sorts are not in order.
@@ -89,10 +149,7 @@ const LATER: &[&str] = &[
     "tht 1\npred l (s : seq) on s nil = [s = nil] cons m t = emp;\nmain r : nat { emp } { ret 0 by emp }",
     "tht 1\nmain r : nat { emp } {\nx <- call f()[] by emp;\nret 0 by emp }",
     "tht 1\nmain r : nat { emp } {\nx : nat <- do () { y <- alloc (0); ret 0 by emp } { emp };\nret y by emp }",
-    "tht 1\npred p () = q();\npred q () = emp;\nmain r : nat { emp } { ret 0 by emp }",
-    "tht 1\npred p () = emp;\npred p () = emp;\nmain r : nat { emp } { ret 0 by emp }",
     "tht 1\nproc f (x : nat) [y : nat] { emp } r : nat { emp } { ret x by emp }\nmain r : nat { emp } {\nf <- alloc (0);\nret 0 by emp }",
-    "tht 1\nmain r : nat { exists r : nat . emp } { ret 0 by emp }",
     "tht 1\npred l (s : seq, s : nat) on s nil = [s = 0] cons m t = emp;\nmain r : nat { emp } { ret 0 by emp }",
     "tht 1\npred l (s : seq) on s nil = emp cons t t = emp;\nmain r : nat { emp } { ret 0 by emp }",
     "tht 1\nmain r : nat { emp } {\nif true as h {\n  if true as h { ret 0 by emp } else { ret 0 by emp }\n} else { ret 0 by emp } }",
@@ -100,18 +157,15 @@ const LATER: &[&str] = &[
     "tht 1\npred p () = emp;\nmain r : nat { emp } {\nuse p() by emp;\nret 0 by emp }",
     "tht 1\nlemma l (k : nat) { emp } { emp } { ret () by emp }\nmain r : nat { l(0) } { ret 0 by emp }",
     "tht 1\npred p () = emp;\nroot a : loc := p;\ninvariant { emp } by emp;\nmain r : nat { emp } { ret 0 by emp }",
-    "tht 1\npred p (x : nat) = emp;\nmain r : nat { p() } { ret 0 by emp }",
     "tht 1\nproc f (x : nat) [y : nat] { emp } r : nat { emp } { ret x by emp }\nmain r : nat { emp } {\nz <- call f(1, 2)[3] by emp;\nret 0 by emp }",
     "tht 1\nproc f (x : nat) [y : nat] { emp } r : nat { emp } { ret x by emp }\nmain r : nat { emp } {\nz <- call f(1)[] by emp;\nret 0 by emp }",
     "tht 1\nlemma l (k : nat) { emp } { emp } { ret () by emp }\nmain r : nat { emp } {\nhave g : true by\n  lemma l() calc;\nret 0 by emp }",
-    "tht 1\npred p (x : nat) = p();\nmain r : nat { emp } { ret 0 by emp }",
     "tht 1\ninvariant { emp } by emp;\ninvariant { emp } by emp;\nmain r : nat { emp } { ret 0 by emp }",
     "tht 1\nroot a : nat := 0;\ninvariant { a => 0 } by @1;\nroot b : nat := 0;\nmain r : nat { emp } { ret 0 by emp }",
     "tht 1\ntxn t () [] { emp } r : nat { emp } { ret 0 by emp }\ninvariant { emp } by emp;\nmain r : nat { emp } { ret 0 by emp }",
     "tht 1\nproc f (x : nat) [y : nat] { emp } r : nat { emp } { ret x by emp }\ninvariant { emp } by emp;\nmain r : nat { emp } { ret 0 by emp }",
     "tht 1\nroot a : nat := 0;\nroot b : nat := 0;\nmain r : nat { emp } { ret 0 by emp }",
     "tht 1\npred p () = emp;\nroot a : nat := true;\nmain r : nat { emp } { ret 0 by emp }",
-    "tht 1\npred p () = p();\nmain r : nat { emp } { ret 0 by emp }",
     "tht 1\npred l (s : seq) on s nil = emp cons m t = l(m :: t);\nmain r : nat { emp } { ret 0 by emp }",
     "tht 1\npred l (s : seq) on s nil = l(nil) cons m t = emp;\nmain r : nat { emp } { ret 0 by emp }",
     "tht 1\nlemma l () { emp } { emp } {\nuse l() by emp;\nret () by emp }\nmain r : nat { emp } { ret 0 by emp }",
@@ -121,7 +175,6 @@ const LATER: &[&str] = &[
     "tht 1\nroot a : nat := true;\ninvariant { emp } by emp;\nmain r : nat { emp } { ret 0 by emp }",
     "tht 1\npred l (k : nat) on k nil = emp cons m t = emp;\nmain r : nat { emp } { ret 0 by emp }",
     "tht 1\nproc f (x : nat) [y : nat] { emp } r : nat { emp } { ret x by emp }\nmain r : nat { emp } {\nz <- call f(true)[0] by emp;\nret 0 by emp }",
-    "tht 1\nmain r : nat { emp } {\nopen 1 as x : nat;\nret x by emp }",
     "tht 1\nlemma l (u : unit) { emp } { emp } { ret u by emp }\nmain r : nat { emp } { ret 0 by emp }",
     "tht 1\nlemma l (b : bool) { emp } { emp } { if b as h { ret () by emp } else { ret () by emp } }\nmain r : nat { emp } { ret 0 by emp }",
     "tht 1\nproc f () [y : nat] { emp } r : nat { emp } { ret y by emp }\nmain r : nat { emp } { ret 0 by emp }",
@@ -143,7 +196,6 @@ const LATER: &[&str] = &[
     "tht 1\nlemma l () { emp } { emp } { ret 5 by emp }\nmain r : nat { emp } { ret 0 by emp }",
     "tht 1\nmain r : nat { emp } {\nx : seq <- do () { ret 0 by emp } { emp };\nret 0 by emp }",
     "tht 1\nproc f (s : seq) [] { emp } r : nat { emp } { ret 0 by emp }\nmain r : nat { emp } { ret 0 by emp }",
-    "tht 1\npred p (s : seq) = null -> s;\nmain r : nat { emp } { ret 0 by emp }",
 ];
 
 #[test]

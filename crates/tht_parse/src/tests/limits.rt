@@ -5,7 +5,7 @@ use super::{
 use crate::{ParseEnd, parse};
 use std::alloc::{AllocError, Global};
 use std::test::Fail;
-use tht_tree::file::same_tree;
+use tht_tree::file::{Source1, same_tree};
 use tht_tree::plain::{Memory, Spot};
 
 /// A part that may be repeated so often at most, between two others, and the spot of what is then one too many.
@@ -254,17 +254,43 @@ fn no_memory(_: Memory) -> AllocError {
     AllocError
 }
 
+fn is_same_as_its_copy(alloc: Global, file: &Source1) -> Result<bool, AllocError> {
+    let copy = file.copy(alloc).map_err(no_memory)?;
+    Ok(same_tree(file, &copy))
+}
+
+/// Whether the text, which is no longer than a source, is read, copied and equal to its copy.
+fn is_copied(alloc: Global, text: &str) -> Result<bool, AllocError> {
+    let bytes = text.as_bytes();
+    if bytes.len() > 1_048_576 {
+        return Ok(false);
+    }
+    match parse(alloc, bytes) {
+        Ok(file) => is_same_as_its_copy(alloc, &file),
+        Err(_) => Ok(false),
+    }
+}
+
 #[test]
 fn the_deepest_term_is_copied_and_compared(rt: HostRuntime) -> Result<(), Fail> {
     let text = deepest(rt.alloc())?;
-    let bytes = text.as_bytes();
-    assert!(rt; bytes.len() <= 1_048_576);
-    match parse(rt.alloc(), bytes) {
-        Ok(file) => {
-            let copy = file.copy(rt.alloc()).map_err(no_memory)?;
-            assert!(rt; same_tree(&file, &copy));
-        }
-        Err(end) => assert_eq!(rt; Some(end), None),
+    assert!(rt; is_copied(rt.alloc(), &text)?);
+    Ok(())
+}
+
+/// A file with a give of 98 parentheses and a chain of 64 operators behind each.
+fn deepest_give(alloc: Global) -> Result<String, AllocError> {
+    let mut text = repeated(alloc, &[(GIVE.0, 1), ("(", 98), ("emp", 1)])?;
+    for _level in 0..98 {
+        text.push_str(&repeated(alloc, &[(" * emp", 64), (")", 1)])?)?;
     }
+    text.push_str(&repeated(alloc, &[(" * emp", 64), (GIVE.1, 1)])?)?;
+    Ok(text)
+}
+
+#[test]
+fn the_deepest_give_is_copied_and_compared(rt: HostRuntime) -> Result<(), Fail> {
+    let text = deepest_give(rt.alloc())?;
+    assert!(rt; is_copied(rt.alloc(), &text)?);
     Ok(())
 }

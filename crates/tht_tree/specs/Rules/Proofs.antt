@@ -22,7 +22,7 @@ use Rattle.tht_tree.specs.declared.rule.RuleCode.{RuleCode}
 use Rattle.tht_tree.specs.declared.rule.RuleCode.TheVariants.{R1, R2, R5, R8, R9, R10, R12}
 use Rattle.tht_tree.specs.declared.rule.RuleRefusal.{RuleRefusal}
 use Rattle.tht_tree.specs.Rules.Refusals.{refuse, refused_as, needs, needs_some, needs_two, ◌▸◌, in_order}
-use Rattle.tht_tree.specs.Rules.Shapes.{Pair, as_conjunction, as_disjunction, as_implication, as_equation, as_inequation, is_nocons, as_nonnull, as_monus}
+use Rattle.tht_tree.specs.Rules.Shapes.{Pair, as_conjunction, as_disjunction, as_implication, as_equation, as_disequation, is_nocons, as_nonnull, as_monus}
 use Rattle.tht_tree.specs.Rules.Known.{Declared, hyp_named, with_hyp, hyp_fits, cell_place}
 use Rattle.tht_tree.specs.Rules.Certificates.{Aim, denial, equal, aim_of, fact_of, Fact, turned, end_code, refused_certificate}
 
@@ -114,7 +114,7 @@ module _ (known : Declared) where
       needs_two spot R5 (equation_of sort.Seq c.scope goal) (λ s u. proves spot q c (term.Eq (term.Cons x s) (term.Cons y u)))
   proof_at p.Nocons spot c goal = needs spot R5 (is_nocons goal)
   proof_at (p.Apart i j) spot c goal =
-      needs_two spot R5 (as_inequation goal) (λ a b.
+      needs_two spot R5 (as_disequation goal) (λ a b.
       needs_some spot R1 (atom_at i c.atoms) (λ x. needs_some spot R1 (atom_at j c.atoms) (λ y.
       needs_some spot R2 (cell_place x) (λ s. needs_some spot R2 (cell_place y) (λ u.
       needs spot R5 (not (i == j)) ▸ needs spot R5 (same_of s a && same_of u b))))))

@@ -5,8 +5,6 @@ use Rattle.tht_tree.specs.declared.plain.Sort.{Sort}
 use Rattle.tht_tree.specs.declared.plain.Sort.TheVariants as sort
 use Rattle.tht_tree.specs.declared.term.Term.{Term, fold-Term}
 use Rattle.tht_tree.specs.declared.term.Term.TheOpen as t
-use Rattle.tht_tree.specs.declared.assn.Assn.{Assn}
-use Rattle.tht_tree.specs.declared.assn.Assn.TheVariants as a
 use Rattle.tht_tree.specs.declared.state.Local.{Local}
 use Rattle.tht_tree.specs.declared.state.Local.TheVariants.{Variable}
 use Rattle.tht_tree.specs.Values.{is_storable}
@@ -114,11 +112,3 @@ sequence_free_at _ = true
 -- no part of the term makes a sequence
 abbrev pub sequence_free : Term → Bool
 sequence_free = fold-Term Bool sequence_free_at
-
--- ---- assertions
-
--- The terms of an assertion have their sorts. Assertions that are not named here are not built yet.
-abbrev pub assn_scoped : Names → Scope → Assn → Bool
-assn_scoped roots scope a.Emp = true
-assn_scoped roots scope (a.Own t u) = is_of sort.Loc (sort_of roots scope t) && is_storable_sort (sort_of roots scope u)
-assn_scoped roots scope _ = false

@@ -46,13 +46,13 @@ equation_at _ = None
 abbrev pub as_equation : Term → Option Pair
 as_equation u = equation_at (out-Term u)
 
-abbrev pub inequation_at : t.Term-F Term → Option Pair
-inequation_at (t.Not u) = as_equation u
-inequation_at _ = None
+abbrev pub disequation_at : t.Term-F Term → Option Pair
+disequation_at (t.Not u) = as_equation u
+disequation_at _ = None
 
 -- `not (a = b)`
-abbrev pub as_inequation : Term → Option Pair
-as_inequation u = inequation_at (out-Term u)
+abbrev pub as_disequation : Term → Option Pair
+as_disequation u = disequation_at (out-Term u)
 
 abbrev pub is_some_cons : t.Term-F Term → Bool
 is_some_cons (t.Cons x s) = true
@@ -67,14 +67,14 @@ some_holds test (Some x) = test x
 
 -- `not (nil = (x :: s))`
 abbrev pub is_nocons : Term → Bool
-is_nocons u = some_holds says_nocons (as_inequation u)
+is_nocons u = some_holds says_nocons (as_disequation u)
 
 abbrev pub left_of_null : Pair → Option Term
 left_of_null p = if is_null (out-Term p.1) then Some p.0 else None
 
 -- the a of `not (a = null)`
 abbrev pub as_nonnull : Term → Option Term
-as_nonnull u = option_and_then left_of_null (as_inequation u)
+as_nonnull u = option_and_then left_of_null (as_disequation u)
 
 -- ---- differences
 

@@ -1,5 +1,5 @@
 use Rattle.std.proofs.Common.{suc, sym, arith}
-use Rattle.hoare_rules.proofs.AtomLists.{none_at}
+use Rattle.assn_laws.proofs.AtomLists.{none_at}
 use Rattle.hoare_rules.proofs.atoms.find.Goals as goal
 
 pub returns-then-number-from-clause-atom : goal.returns-then-number-from-clause-atom

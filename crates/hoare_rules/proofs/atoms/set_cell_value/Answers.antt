@@ -1,8 +1,8 @@
 use Rattle.std.proofs.Common.{◌≡◌, ◌∙◌, ap}
 use Rattle.tht_tree.specs.declared.assn.Assn.TheVariants.{Own}
 use Rattle.tht_tree.specs.Rules.Context.{with_atom}
-use Rattle.hoare_rules.proofs.AtomLists.{ascends_from, with_value}
-use Rattle.hoare_rules.proofs.Choices.{some_same}
+use Rattle.assn_laws.proofs.AtomLists.{ascends_from, with_value}
+use Rattle.assn_laws.proofs.Answers.{some_same}
 use Rattle.hoare_rules.proofs.atoms.set_cell_value.Goals as goal
 
 pub returns-in-Some : goal.returns-in-Some

@@ -2,14 +2,14 @@ use Rattle.std.proofs.Common.{◌≡◌, ◌^◌, ◌<◌, ◌≤◌, Ok, sym, �
 use Rattle.std.specs.Prelude.{All}
 use Rattle.tht_tree.specs.declared.assn.Assn.TheVariants.{Own}
 use Rattle.tht_tree.specs.declared.rule.RuleCode.TheVariants.{R10}
-use Rattle.tht_tree.specs.Rules.Commands.{unless_refused, if_fits, refused}
+use Rattle.tht_logic.specs.Rules.Checking.{unless_refused, if_fits, reject}
 use Rattle.tht_tree.specs.Rules.Context.{context_of, context_nodes, with_atom}
 use Rattle.tht_tree.specs.Rules.Refusals.{needs}
 use Rattle.hoare_rules.specs.Steps.{write_context, written}
-use Rattle.hoare_rules.proofs.AtomLists.{All-with}
+use Rattle.assn_laws.proofs.AtomLists.{All-with}
 use Rattle.hoare_rules.proofs.Agreeing.{written_at, refuses_large}
 use Rattle.hoare_rules.proofs.Exact.{value_within, write_left, too_large, is_counted, not_too_large}
-use Rattle.hoare_rules.proofs.FormedAfter.{number_at}
+use Rattle.hoare_rules.proofs.Numbers.{number_at}
 use Rattle.hoare_rules.proofs.commands.put_value.Goals as goal
 
 pub overflow_sub-known : goal.overflow_sub-known
@@ -31,9 +31,9 @@ returns-then-not-context_is_within c =
     let nodes = c.saturating_add-nodes.result in
     let new = write_context old cell.number place value in
     let left =
-    write_left old cell.number place found.value.now at value c.requires me.nodes c.term_size.result c.term_size-2.result nodes
+    write_left old cell.number place found.value.now at value c.ascend.ensures me.nodes c.term_size.result c.term_size-2.result nodes
     me.counted me.in_range c.term_size.ensures c.term_size-2.ensures c.saturating_add-nodes.ensures in
-    let said : written cell.spot old cell.number value ≡ refused cell.spot R10 =
+    let said : written cell.spot old cell.number value ≡ reject cell.spot R10 =
     written_at cell.spot old cell.number place found.value.now at value
     ∙ ap (λ b. unless_refused (needs cell.spot R10 b) (if_fits cell.spot new)) (sym c.if-not-pair_fits.ensures.cell)
     ∙ too_large cell.spot new nodes left c.if-not-context_is_within.ensures in
@@ -51,7 +51,7 @@ invariant_of-known c =
     let nodes = c.saturating_add-nodes.result in
     let new = write_context old cell.number place value in
     let left =
-    write_left old cell.number place found.value.now at value c.requires me.nodes c.term_size.result c.term_size-2.result nodes
+    write_left old cell.number place found.value.now at value c.ascend.ensures me.nodes c.term_size.result c.term_size-2.result nodes
     me.counted me.in_range c.term_size.ensures c.term_size-2.ensures c.saturating_add-nodes.ensures in
     let same : c.set_cell_value.new.atoms.entries ≡ with_atom cell.number (Own place value) me.state.atoms.entries =
     c.set_cell_value.ensures place found.value.now at ∙ ap (λ t. with_atom cell.number (Own place t) me.state.atoms.entries) (c.in_ok-value-2.ensures ∙ c.in_ok-value.ensures) in
@@ -75,7 +75,7 @@ returns c =
     let nodes = c.saturating_add-nodes.result in
     let new = write_context old cell.number place value in
     let left =
-    write_left old cell.number place found.value.now at value c.requires me.nodes c.term_size.result c.term_size-2.result nodes
+    write_left old cell.number place found.value.now at value c.ascend.ensures me.nodes c.term_size.result c.term_size-2.result nodes
     me.counted me.in_range c.term_size.ensures c.term_size-2.ensures c.saturating_add-nodes.ensures in
     let same : c.set_cell_value.new.atoms.entries ≡ with_atom cell.number (Own place value) me.state.atoms.entries =
     c.set_cell_value.ensures place found.value.now at ∙ ap (λ t. with_atom cell.number (Own place t) me.state.atoms.entries) (c.in_ok-value-2.ensures ∙ c.in_ok-value.ensures) in

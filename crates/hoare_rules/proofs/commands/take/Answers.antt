@@ -1,10 +1,10 @@
 use Rattle.std.proofs.Common.{◌≡◌, ◌≤◌, sym, ◌∙◌, ap, subst, arith}
 use Rattle.std.specs.Prelude.{All}
 use Rattle.tht_tree.specs.declared.rule.RuleCode.TheVariants.{R10}
-use Rattle.tht_tree.specs.Rules.Commands.{refused}
+use Rattle.tht_logic.specs.Rules.Checking.{reject}
 use Rattle.tht_tree.specs.Rules.Context.{context_of, context_nodes}
 use Rattle.hoare_rules.specs.Steps.{free_context, freed}
-use Rattle.hoare_rules.proofs.AtomLists.{All-without}
+use Rattle.assn_laws.proofs.AtomLists.{All-without}
 use Rattle.hoare_rules.proofs.Agreeing.{freed_at, refuses_large}
 use Rattle.hoare_rules.proofs.Exact.{free_left, too_large, is_counted}
 use Rattle.hoare_rules.proofs.commands.take.Goals as goal
@@ -23,7 +23,7 @@ returns-then-not-context_is_within c =
     let found = c.in_ok-found.found in
     let at = c.in_ok-found.ensures.cell in
     let left = free_left old cell.number found.place.now found.value.now at me.nodes c.pair_size.result me.counted me.in_range c.pair_size.ensures in
-    let said : freed cell.spot old cell.number ≡ refused cell.spot R10 =
+    let said : freed cell.spot old cell.number ≡ reject cell.spot R10 =
     freed_at cell.spot old cell.number found.place.now found.value.now at ∙ too_large cell.spot (free_context old cell.number) _ left.1 c.if-not-context_is_within.ensures in
     refuses_large c.refused.result cell.spot (freed cell.spot old cell.number) c.refused.ensures said
 

@@ -1,5 +1,5 @@
 use Rattle.std.proofs.Common.{◌∙◌, ap, sym, add-one}
-use Rattle.tht_tree.specs.Syntax.{stmts_of}
+use Rattle.tht_logic.specs.Programs.{stmts_of}
 use Rattle.tht_front.proofs.Going.{begins, now_at, none_at, below, passed_over, went_on, too_big_at, fault_at, spent_at, finished}
 use Rattle.tht_front.proofs.run.run.Goals as goal
 

@@ -1,5 +1,5 @@
 use Rattle.std.proofs.Common.{drop}
-use Rattle.tht_tree.specs.Syntax.{stmts_of}
+use Rattle.tht_logic.specs.Programs.{stmts_of}
 use Rattle.tht_front.specs.Carrying.{store_of}
 use Rattle.tht_front.proofs.Going.{About}
 use Rattle.tht_front.proofs.run.run.Given as goal

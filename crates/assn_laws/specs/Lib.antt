@@ -1,0 +1,6 @@
+pub mod AssertionLaws
+pub mod Laws
+pub mod Allocs
+pub mod Walked
+pub mod CellLaws
+pub mod FileLaws

@@ -1,0 +1,12 @@
+pub mod OneAtom
+pub mod LikeNames
+pub mod LikeTerms
+pub mod LikeAssns
+pub mod LikeLists
+pub mod LevelNames
+pub mod ZerosMade
+pub mod SizesInside
+pub mod PutFits
+pub mod ArgumentPairs
+pub mod Defined
+pub mod KeptHeaps

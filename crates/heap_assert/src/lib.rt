@@ -1,0 +1,20 @@
+//! Assertions: their atoms, whether two are one up to bound names, terms put in for names, and what instances of predicates are
+//! defined as.
+#![tactic(auto)]
+
+mod atoms;
+mod binders;
+mod definition_end;
+mod instances;
+mod putting;
+mod sameness;
+mod sizes;
+#[cfg(test)]
+mod tests;
+mod zeros;
+
+pub use atoms::flatten;
+pub use definition_end::DefinitionEnd;
+pub use instances::definition;
+pub use putting::put_in_assn;
+pub use sameness::alike;

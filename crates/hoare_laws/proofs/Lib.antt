@@ -1,0 +1,9 @@
+pub mod Measure
+pub mod SameFound
+pub mod ProgramValues
+pub mod Growing
+pub mod WalkedStmts
+pub mod StmtSound
+pub mod BodySound
+pub mod FileSound
+pub mod Sample

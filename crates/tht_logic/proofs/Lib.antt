@@ -1,0 +1,10 @@
+pub mod Said
+pub mod Numbers
+pub mod HeapLaws
+pub mod Parts
+pub mod Local
+pub mod Moves
+pub mod Acts
+pub mod Outside
+pub mod Fewer
+pub mod Runs

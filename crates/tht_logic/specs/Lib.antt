@@ -1,0 +1,14 @@
+pub mod Programs
+pub mod Machine
+pub mod Runs
+pub mod Assertions
+pub mod Satisfaction
+pub mod Meanings
+pub mod Putting
+pub mod Alike
+pub mod Flatten
+pub mod Soundness
+pub mod Rules
+pub mod Bodies
+pub mod Built
+pub mod CommandLine

@@ -1,0 +1,10 @@
+pub mod Checking
+pub mod Definitions
+pub mod Parts
+pub mod Gives
+pub mod Steps
+pub mod Scoped
+pub mod Formed
+pub mod Commands
+pub mod Bodies
+pub mod Files
