@@ -43,7 +43,7 @@ abbrev of_name : List ℕ → Option Predicate
 of_name n = if bytes_eq bank n then Some (one_case [] bank_body) else None
 
 abbrev decl : Declarations
-decl = record { proofs = record { roots = ra ∷ rb ∷ []; lemmas = λ l ts. None }; predicates = of_name; lemmas = λ l. None }
+decl = record { proofs = record { roots = ra ∷ rb ∷ []; lemmas = λ l ts. None }; predicates = of_name; lemmas = λ l. None; procs = λ f. None }
 
 -- 1: a => 100, 2: b => 50
 abbrev atoms : Atoms

@@ -22,7 +22,7 @@ use Rattle.tht_logic.specs.Satisfaction.{Meaning, Satisfies}
 use Rattle.assn_laws.specs.AssertionLaws.{EachName, EachFree}
 use Rattle.assn_laws.proofs.AssnLevels.{Star, Exists, Either, Star-is, Exists-is, Either-is}
 use Rattle.assn_laws.proofs.Nameless.{asn-Emp, asn-Fact, asn-Own, asn-Shared, asn-Star, asn-Inst, asn-Exists, asn-Either}
-use Rattle.assn_laws.proofs.NamesInTerms.{name_in}
+use Rattle.tht_logic.proofs.NamesInTerms.{name_in}
 use Rattle.assn_laws.proofs.PuttingNames.{position_behind}
 
 -- a name that is free has the same value behind one more bound variable, and each other the next number

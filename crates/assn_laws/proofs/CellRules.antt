@@ -45,7 +45,7 @@ within : (spot : Spot) (b : Bool) (c d : Context) → known_is (on_true spot R10
 within spot true c d e = cc
 within spot false c d e = cc
 
-fits_is : (spot : Spot) (c d : Context) → known_is (if_fits spot c) d → c ≡ d
+pub fits_is : (spot : Spot) (c d : Context) → known_is (if_fits spot c) d → c ≡ d
 fits_is spot c d e = within spot (context_fits c) c d e
 
 -- the cell of an atom

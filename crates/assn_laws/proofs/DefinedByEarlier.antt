@@ -41,7 +41,7 @@ use Rattle.assn_laws.proofs.Refusing.{nothing, construct_none, behind_none, firs
 use Rattle.assn_laws.proofs.WalkedNames.{unknown}
 use Rattle.assn_laws.proofs.WalkedAssns.{walked_assertions_are_in_order}
 
-new_to_walk : (names : walk.Scope) (x : List ℕ) → new_name names x ≡ no_walk_code → names x ≡ None
+pub new_to_walk : (names : walk.Scope) (x : List ℕ) → new_name names x ≡ no_walk_code → names x ≡ None
 new_to_walk names x e = no_class (names x) (unless_none _ N2 e)
 
 -- ---- parameters
@@ -92,9 +92,14 @@ module _ (roots : Names) where
 
   -- ---- what the walk knows before a declaration
 
+  -- a name that is new to the walk is new to the table of the declarations in front
+  abbrev pub KnowsNoOther : Table → walk.Scope → Type 0
+  KnowsNoOther known names = (q : List ℕ) → names q ≡ None → known q ≡ None
+
   pub record Reached (known : Table) (names : walk.Scope) : Type 0 where
     pub matches : Matches roots names no_locals
     pub knows : Knows known names
+    pub no_other : KnowsNoOther known names
 
   module _ (known : Table) (names : walk.Scope) (at : Reached known names) (q : List ℕ) (new : new_name names q ≡ no_walk_code) where
     -- the name of a declaration that is no variable, no hypothesis and no root
@@ -112,11 +117,18 @@ module _ (roots : Names) where
         pick true = f (known y)
         pick false = at.knows y
 
+    no_other_with : (k : Class) → KnowsNoOther known (with_name names q k)
+    no_other_with k y = pick (bytes_eq q y)
+      where
+        pick : (t : Bool) → (if t then Some k else names y) ≡ None → known y ≡ None
+        pick true g = cc
+        pick false g = at.no_other y g
+
     reached_with : (k : Class) → ((r : Option ℕ) → r ≡ None → MatchesAt (Some k) None r) → ((x : _) → KnowsAt (Some k) x) → Reached known (with_name names q k)
-    reached_with k f g = record { matches = matches_with k f; knows = knows_with k g }
+    reached_with k f g = record { matches = matches_with k f; knows = knows_with k g; no_other = no_other_with k }
 
     not_known : known q ≡ None
-    not_known = subst (λ z. KnowsAt z (known q)) (new_to_walk names q new) (at.knows q)
+    not_known = at.no_other q (new_to_walk names q new)
 
     module _ (who : Access) (ps : List Param) (p : Assn) where
       knows_predicate : Knows (defs.with_predicate q (one_case ps p) known) (with_predicate names who q ps Anywhere)
@@ -126,8 +138,15 @@ module _ (roots : Names) where
           pick true = refl
           pick false = at.knows y
 
+      no_other_predicate : KnowsNoOther (defs.with_predicate q (one_case ps p) known) (with_predicate names who q ps Anywhere)
+      no_other_predicate y = pick (bytes_eq q y)
+        where
+          pick : (t : Bool) → (if t then Some (c.Predicate who (param_sorts ps) Anywhere) else names y) ≡ None → (if t then Some (one_case ps p) else known y) ≡ None
+          pick true g = cc
+          pick false g = at.no_other y g
+
       reached_predicate : Reached (defs.with_predicate q (one_case ps p) known) (with_predicate names who q ps Anywhere)
-      reached_predicate = record { matches = matches_with (c.Predicate who (param_sorts ps) Anywhere) (λ r e. (refl, e)); knows = knows_predicate }
+      reached_predicate = record { matches = matches_with (c.Predicate who (param_sorts ps) Anywhere) (λ r e. (refl, e)); knows = knows_predicate; no_other = no_other_predicate }
 
       inside : Reached known (with_predicate names who q ps Nowhere)
       inside = reached_with (c.Predicate who (param_sorts ps) Nowhere) (λ r e. (refl, e)) (λ x. tt)

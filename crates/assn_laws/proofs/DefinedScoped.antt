@@ -27,7 +27,7 @@ use Rattle.assn_laws.proofs.Predicates.{param_scope, AreDefinedByEarlier, fits_k
 
 module _ (roots : Names) (scope : Scope) (apart : HideNoRoot roots scope) where
   -- each parameter stands for an argument of its sort
-  keep : (ps : List Param) (ts : List Term) → fit roots scope ps ts ≡ true → (y : List ℕ) (s : Sort) → name_sort (variable_sort (param_scope ps y)) (position 0 roots y) ≡ Some s
+  pub keep : (ps : List Param) (ts : List Term) → fit roots scope ps ts ≡ true → (y : List ℕ) (s : Sort) → name_sort (variable_sort (param_scope ps y)) (position 0 roots y) ≡ Some s
       → sort_of roots scope (put_name (arguments ps ts) y) ≡ Some s
   keep [] [] f y s e = at-Var (Option Sort) (sort_at roots scope) y ∙ of_root (position 0 roots y) refl e
     where

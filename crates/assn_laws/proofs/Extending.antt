@@ -18,7 +18,7 @@ use Rattle.tht_logic.specs.Rules.Scoped as scoped
 use Rattle.assn_laws.proofs.AssnLevels.{Star, Exists, Either, Star-is, Exists-is, Either-is}
 use Rattle.assn_laws.proofs.KnownNames.{both_true}
 use Rattle.assn_laws.proofs.PutScoped.{both_hold}
-use Rattle.assn_laws.proofs.NamesInTerms.{all_free}
+use Rattle.tht_logic.proofs.NamesInTerms.{all_free}
 use Rattle.assn_laws.proofs.FreeNames.{every_name}
 use Rattle.assn_laws.proofs.SortsByNames.{sort_named, sort_stays}
 use Rattle.assn_laws.proofs.ScopedLevels.{scoped-Emp, scoped-Fact, scoped-Own, scoped-Shared, scoped-Star, scoped-Inst, scoped-Exists, scoped-Either}

@@ -46,15 +46,16 @@ use Rattle.assn_laws.proofs.WalkedAssns.{walked_assertions_are_in_order}
 use Rattle.assn_laws.proofs.WalkedGives.{walked_gives_are_in_order}
 use Rattle.assn_laws.proofs.WalkedSteps.{walked_steps_are_in_order, walked_steps_match}
 use Rattle.assn_laws.proofs.DefinedByEarlier.{all_reached}
+use Rattle.assn_laws.proofs.KnownDecls.{procs_declared}
 use Rattle.assn_laws.proofs.SimpleFiles.{simple_files_have_premises}
 use Rattle.assn_laws.proofs.Scopes.{steps_make_scopes, gives_keep_scopes, steps_keep_predicates, knows_with}
 
 -- What stands before main.
 pub main_begins : MainBegins
 main_begins file sorted simple =
-    let reached = all_reached (root_names file) (has_invariant file.decls) file.decls at_start (λ q. None) simple (record { matches = λ x. (refl, refl); knows = λ q. refl })
+    let reached = all_reached (root_names file) (has_invariant file.decls) file.decls at_start (λ q. None) simple (record { matches = λ x. (refl, refl); knows = λ q. tt; no_other = λ q e. refl })
     (behind_none (decls (has_invariant file.decls) file.decls at_start) (main file.main (after_decls file.decls at_start)) sorted).0 in
-    (reached.matches, reached.knows)
+    (reached.matches, reached.knows, procs_declared file.decls at_start (λ f. None) (λ f. tt))
 
 -- proofs, gives and steps are in order where the walk refuses nothing
 pub in_order : (decl : Declarations) (names : walk.Scope) (scope : Scope) → Matches decl.proofs.roots names scope → Knows decl.predicates names

@@ -74,7 +74,7 @@ sample_simple =
     (All-cons (λ (x : Decl). is_simple x.kind ≡ true) some_cell [] refl (All-nil (λ (x : Decl). is_simple x.kind ≡ true)))
 
 abbrev sample_decl : Declarations
-sample_decl = record { proofs = record { roots = []; lemmas = λ l ts. None }; predicates = predicates_of sample.decls; lemmas = λ l. None }
+sample_decl = record { proofs = record { roots = []; lemmas = λ l ts. None }; predicates = predicates_of sample.decls; lemmas = λ l. None; procs = λ f. None }
 
 pub sample_ready : IsReady sample sample_decl
 sample_ready = record {

@@ -21,7 +21,7 @@ use Rattle.tht_logic.specs.Rules.Scoped.{Signatures}
 use Rattle.tht_logic.specs.Rules.Scoped as scoped
 use Rattle.assn_laws.proofs.AssnLevels.{Star, Exists, Either, Star-is, Exists-is, Either-is}
 use Rattle.assn_laws.proofs.Nameless.{asn-Emp, asn-Fact, asn-Own, asn-Shared, asn-Star, asn-Inst, asn-Exists, asn-Either}
-use Rattle.assn_laws.proofs.NamesInTerms.{all_free, name_in, bind_names}
+use Rattle.tht_logic.proofs.NamesInTerms.{all_free, name_in, bind_names}
 use Rattle.assn_laws.proofs.PuttingNames.{position_behind}
 use Rattle.assn_laws.proofs.ScopedLevels.{scoped-Fact, scoped-Own, scoped-Shared, scoped-Star, scoped-Inst, scoped-Exists, scoped-Either}
 

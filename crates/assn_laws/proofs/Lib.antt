@@ -3,7 +3,6 @@ pub mod AssnInduction
 pub mod Nameless
 pub mod Flattening
 pub mod FlattenHeaps
-pub mod NamesInTerms
 pub mod FreeNames
 pub mod BoundNames
 pub mod PuttingNames
@@ -55,8 +54,17 @@ pub mod DefinedByEarlier
 pub mod SimpleFiles
 pub mod CellRules
 pub mod CellLaw
+pub mod ResultLaw
+pub mod DealLaw
+pub mod CaseLaws
 pub mod WalkedPrograms
 pub mod Scopes
 pub mod FileLaw
 pub mod FileCells
+pub mod HeadScopes
+pub mod CallLaw
+pub mod WalkedCalls
+pub mod KnownDecls
+pub mod WalkedHeads
 pub mod FileSample
+pub mod ProcNames

@@ -24,7 +24,7 @@ use Rattle.tht_logic.specs.Rules.Definitions.{DefEnd, arguments, or_large, defin
 use Rattle.tht_logic.specs.Meanings.{names_of, holds}
 use Rattle.tht_logic.specs.Rules.Scoped.{fit}
 use Rattle.assn_laws.specs.AssertionLaws.{EachName, EachFree, Holds}
-use Rattle.assn_laws.proofs.NamesInTerms.{name_in}
+use Rattle.tht_logic.proofs.NamesInTerms.{name_in}
 use Rattle.assn_laws.proofs.KnownNames.{both_true}
 use Rattle.assn_laws.proofs.PuttingNames.{position_behind}
 use Rattle.assn_laws.proofs.ByNames.{value_behind, same_heaps}

@@ -16,7 +16,7 @@ use Rattle.tht_tree.proofs.TermFolds.{at-Var}
 use Rattle.tht_tree.proofs.TermValues.{value-Var}
 use Rattle.tht_logic.specs.Assertions.{asn}
 use Rattle.tht_logic.specs.Satisfaction.{Meaning, Satisfies}
-use Rattle.assn_laws.proofs.NamesInTerms.{name_in}
+use Rattle.tht_logic.proofs.NamesInTerms.{name_in}
 use Rattle.assn_laws.proofs.FreeNames.{every_free}
 use Rattle.assn_laws.proofs.ByNames.{same_heaps}
 use Rattle.assn_laws.proofs.PutScoped.{Keep}

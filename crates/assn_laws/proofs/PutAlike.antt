@@ -18,7 +18,7 @@ use Rattle.tht_logic.specs.Putting.{bound_name, greatest, zeros_in, renaming, pu
 use Rattle.assn_laws.specs.AssertionLaws.{AlikeBecomeOne}
 use Rattle.assn_laws.proofs.AssnLevels.{Star, Exists, Either, Star-is, Exists-is, Either-is}
 use Rattle.assn_laws.proofs.Nameless.{asn-Emp, asn-Fact, asn-Own, asn-Shared, asn-Star, asn-Inst, asn-Exists, asn-Either, put-Emp, put-Fact, put-Own, put-Shared, put-Star, put-Inst, put-Exists, put-Either, put_whole}
-use Rattle.assn_laws.proofs.NamesInTerms.{name_in}
+use Rattle.tht_logic.proofs.NamesInTerms.{name_in}
 use Rattle.assn_laws.proofs.PuttingNames.{position_behind}
 use Rattle.assn_laws.proofs.AlikeHeaps.{same_asn-true}
 

@@ -21,7 +21,7 @@ use Rattle.tht_logic.specs.Rules.Scoped as scoped
 use Rattle.assn_laws.specs.AssertionLaws.{EachName, EachFree}
 use Rattle.assn_laws.proofs.AssnLevels.{Star, Exists, Either, Star-is, Exists-is, Either-is}
 use Rattle.assn_laws.proofs.Nameless.{asn-Fact, asn-Own, asn-Shared, asn-Star, asn-Inst, asn-Exists, asn-Either, put-Emp, put-Fact, put-Own, put-Shared, put-Star, put-Inst, put-Exists, put-Either, put_whole}
-use Rattle.assn_laws.proofs.NamesInTerms.{all_free, name_in, bind_names}
+use Rattle.tht_logic.proofs.NamesInTerms.{all_free, name_in, bind_names}
 use Rattle.assn_laws.proofs.FreeNames.{each_name_map, names_put, Clean, all_clean}
 use Rattle.assn_laws.proofs.BoundNames.{same_itself, zeros_of_bound, fewer_zeros}
 use Rattle.assn_laws.proofs.PuttingNames.{position_behind}

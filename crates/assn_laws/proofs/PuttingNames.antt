@@ -15,7 +15,7 @@ use Rattle.tht_logic.specs.Putting.{bound_name, zeros, zeros_made, renaming, put
 use Rattle.assn_laws.specs.AssertionLaws.{EachName, EachFree, PuttingNeverCaptures}
 use Rattle.assn_laws.proofs.AssnLevels.{Star, Exists, Either, Star-is, Exists-is, Either-is}
 use Rattle.assn_laws.proofs.Nameless.{asn-Emp, asn-Fact, asn-Own, asn-Shared, asn-Star, asn-Inst, asn-Exists, asn-Either, put-Emp, put-Fact, put-Own, put-Shared, put-Star, put-Inst, put-Exists, put-Either, put_whole}
-use Rattle.assn_laws.proofs.NamesInTerms.{all_free, name_in, bind_names, put_for, put_names}
+use Rattle.tht_logic.proofs.NamesInTerms.{all_free, name_in, bind_names, put_for, put_names}
 use Rattle.assn_laws.proofs.FreeNames.{Clean, all_clean}
 use Rattle.assn_laws.proofs.BoundNames.{same_itself, later_is_other, fewer_zeros, put_after, put_same}
 

@@ -32,7 +32,7 @@ use Rattle.tht_logic.specs.Rules.Scoped as scoped
 use Rattle.assn_laws.specs.AssertionLaws.{Holds}
 use Rattle.assn_laws.specs.Laws.{ReturnsAreSound}
 use Rattle.assn_laws.proofs.Answers.{from_ok, from_put}
-use Rattle.assn_laws.proofs.NamesInTerms.{name_in}
+use Rattle.tht_logic.proofs.NamesInTerms.{name_in}
 use Rattle.assn_laws.proofs.FreeNames.{every_free}
 use Rattle.assn_laws.proofs.ByNames.{same_heaps}
 use Rattle.assn_laws.proofs.FlattenHeaps.{beside_empty}

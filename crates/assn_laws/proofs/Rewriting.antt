@@ -28,7 +28,7 @@ use Rattle.tht_logic.specs.Rules.Scoped as scoped
 use Rattle.assn_laws.specs.AssertionLaws.{Holds}
 use Rattle.assn_laws.proofs.Nameless.{asn-Own, asn-Shared, asn-Inst}
 use Rattle.assn_laws.proofs.ScopedLevels.{scoped-Own, scoped-Shared, scoped-Inst}
-use Rattle.assn_laws.proofs.AlikeHeaps.{same_val-true}
+use Rattle.tht_logic.proofs.SameTrms.{same_val-true}
 use Rattle.assn_laws.proofs.AtomLists.{order, below, same, above}
 use Rattle.assn_laws.proofs.Answers.{some_same}
 

@@ -143,7 +143,7 @@ of_lemma v =
     else None
 
 abbrev pub decl : Declarations
-decl = record { proofs = record { roots = []; lemmas = λ l ts. None }; predicates = of_name; lemmas = of_lemma }
+decl = record { proofs = record { roots = []; lemmas = λ l ts. None }; predicates = of_name; lemmas = of_lemma; procs = λ f. None }
 
 abbrev pub scope : Scope
 scope =

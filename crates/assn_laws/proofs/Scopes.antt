@@ -46,7 +46,7 @@ use Rattle.assn_laws.proofs.WalkedNames.{unknown}
 
 -- ---- the rules
 
-from_fits : (spot : Spot) (k next : Context) → IsOk (if_fits spot k) next → k ≡ next
+pub from_fits : (spot : Spot) (k next : Context) → IsOk (if_fits spot k) next → k ≡ next
 from_fits spot k next e = ok_same k next (from_true spot R10 (context_fits k) (Ok k) next e).1
 
 -- A give leaves its scope.

@@ -24,7 +24,7 @@ module _ (file : Source1) (decl : Declarations) (sorted : WellSorted file) (simp
   pub turn : AreDefinedByEarlier decl.proofs.roots (λ q. None) file.decls
   turn =
       subst (λ r. AreDefinedByEarlier r (λ q. None) file.decls) (sym declares.roots)
-      (all_defined [] (has_invariant file.decls) file.decls at_start (λ q. None) simple (record { matches = λ x. (refl, refl); knows = λ q. refl }) no_refusal)
+      (all_defined [] (has_invariant file.decls) file.decls at_start (λ q. None) simple (record { matches = λ x. (refl, refl); knows = λ q. tt; no_other = λ q e. refl }) no_refusal)
 
   pub means : InstancesMeanDefinitions decl (instance_fits decl) (meaning (root_names file) file.decls)
   means = subst (λ r. InstancesMeanDefinitions decl (instance_fits decl) (meaning r file.decls)) declares.roots (instances_mean_definitions decl file.decls declares.predicates turn)

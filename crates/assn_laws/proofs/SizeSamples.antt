@@ -78,7 +78,7 @@ too_large_whole = simp with_cell
 
 -- pred k (x : nat) = emp: what stands for x is no part of the definition
 abbrev without_x : Declarations
-without_x = record { proofs = decl.proofs; predicates = λ q. Some (one_case (param x sort.Nat ∷ []) a.Emp); lemmas = λ l. None }
+without_x = record { proofs = decl.proofs; predicates = λ q. Some (one_case (param x sort.Nat ∷ []) a.Emp); lemmas = λ l. None; procs = λ f. None }
 
 put_nothing : (k : ℕ) → put_in_assn (arguments (param x sort.Nat ∷ []) (deep k ∷ [])) a.Emp ≡ a.Emp
 put_nothing k = simp by_putting

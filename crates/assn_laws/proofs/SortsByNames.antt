@@ -13,7 +13,7 @@ use Rattle.tht_tree.specs.Rules.Context.{Scope}
 use Rattle.tht_tree.specs.Rules.Scoping.{variable_sort, name_sort, both_of, equation_sort, cons_sort, len_sort, offset_sort, not_sort, sort_at, sort_of}
 use Rattle.tht_tree.proofs.TermInduction.{fold_level, OfParts, by_parts}
 use Rattle.assn_laws.specs.AssertionLaws.{EachName}
-use Rattle.assn_laws.proofs.NamesInTerms.{all_free, put_for, put_names}
+use Rattle.tht_logic.proofs.NamesInTerms.{all_free, put_for, put_names}
 use Rattle.assn_laws.proofs.KnownNames.{Sorted, both_sorted, equation_sorted, cons_sorted, len_sorted, offset_sorted, not_sorted}
 
 -- ---- sorts of terms without names

@@ -30,7 +30,7 @@ use Rattle.tht_logic.specs.Rules.Scoped as scoped
 use Rattle.assn_laws.specs.Walked.{KnowsAt, WalkedInstancesFit}
 use Rattle.assn_laws.proofs.Refusing.{first_of_none, storable_none, same_itself, no_class, both}
 
-both_none : (a b : Option WalkCode) → a ≡ no_walk_code → b ≡ no_walk_code → first a b ≡ no_walk_code
+pub both_none : (a b : Option WalkCode) → a ≡ no_walk_code → b ≡ no_walk_code → first a b ≡ no_walk_code
 both_none a b e f = ap (λ z. first z b) e ∙ f
 
 module _ (roots : Names) (names : walk.Scope) (scope : Scope) (matches : Matches roots names scope) where
@@ -97,7 +97,7 @@ module _ (roots : Names) (names : walk.Scope) (scope : Scope) (matches : Matches
   sorts_of : List Term → List (Option Sort)
   sorts_of ts = map (λ x. (found names false x).sort) ts
 
-  fit_walked : (ps : List Param) (ts : List Term) → any_terms names ts ≡ no_walk_code → arguments names false (param_sorts ps) ts ≡ no_walk_code → fit roots scope ps ts ≡ true
+  pub fit_walked : (ps : List Param) (ts : List Term) → any_terms names ts ≡ no_walk_code → arguments names false (param_sorts ps) ts ≡ no_walk_code → fit roots scope ps ts ≡ true
   fit_walked [] [] e f = refl
   fit_walked (p ∷ ps) (t ∷ ts) e f =
       let one = first_of_none (any_term names t) (map (any_term names) ts) e in

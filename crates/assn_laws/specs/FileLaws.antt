@@ -1,12 +1,16 @@
 -- The laws of steps, of statements on private cells, of gives and returns in a file without roots and `on` whose names and sorts are in order, where no lemma can be used: the walk
 -- over names and sorts and the rules are all that they ask. As statements.
-use Rattle.std.specs.Prelude.{◌≡◌, ℕ, Bool, true, List, Some, None, Ok}
+use Rattle.std.specs.Prelude.{◌≡◌, ℕ, Bool, true, List, ◌∷◌, ◌++◌, Option, Some, None, Ok}
 use Rattle.tht_tree.specs.declared.plain.Place.TheVariants.{Cell}
 use Rattle.tht_tree.specs.declared.plain.Sort.{Sort}
 use Rattle.tht_tree.specs.declared.plain.Sort.TheVariants as sort
 use Rattle.tht_tree.specs.declared.plain.Spot.{Spot}
 use Rattle.tht_tree.specs.declared.term.Term.{Term}
 use Rattle.tht_tree.specs.declared.assn.Assn.{Assn}
+use Rattle.tht_tree.specs.declared.body.Body.{Body}
+use Rattle.tht_tree.specs.declared.decl.Decl.{Decl}
+use Rattle.tht_tree.specs.declared.decl.DeclKind.TheVariants as d
+use Rattle.tht_tree.specs.declared.decl.Head.{Head}
 use Rattle.tht_tree.specs.declared.proof.Proof.{Proof}
 use Rattle.tht_tree.specs.declared.give.Give.{Give}
 use Rattle.tht_tree.specs.declared.step.Step.{Step}
@@ -15,6 +19,7 @@ use Rattle.tht_tree.specs.declared.file.Source1.{Source1}
 use Rattle.tht_tree.specs.declared.state.Local.{Local}
 use Rattle.tht_tree.specs.declared.state.Local.TheVariants.{Variable}
 use Rattle.tht_tree.specs.declared.state.Post.{Post}
+use Rattle.tht_tree.specs.declared.walk.Where.TheVariants.{Outside}
 use Rattle.tht_tree.specs.Values.{is, Env, bind, a_place, value_in, has_sort}
 use Rattle.tht_tree.specs.Syntax.{Names}
 use Rattle.tht_logic.specs.Programs.{root_names}
@@ -29,10 +34,14 @@ use Rattle.tht_tree.specs.Walk.Assns as assns
 use Rattle.tht_tree.specs.Walk.Proofs as proofs
 use Rattle.tht_tree.specs.Walk.Gives as gives
 use Rattle.tht_tree.specs.Walk.Steps as steps
+use Rattle.tht_tree.specs.Walk.Bodies.{frame, body}
+use Rattle.tht_tree.specs.Walk.Decls.{with_proc, in_command}
 use Rattle.tht_tree.specs.Walk.Files.{WellSorted, at_start, after_decls}
 use Rattle.proof_laws.specs.Scoped.{is_scoped}
 use Rattle.proof_laws.specs.Walked.{Matches}
-use Rattle.tht_logic.specs.Rules.Definitions.{Declarations, predicates_of}
+use Rattle.tht_logic.specs.Procedures.{Procedure, procedures_of}
+use Rattle.tht_logic.specs.Rules.Definitions.{Declarations, predicates_of, head_scope}
+use Rattle.tht_logic.specs.Rules.Files.{declared_in}
 use Rattle.tht_logic.specs.Rules.Gives.{after_give}
 use Rattle.tht_logic.specs.Rules.Steps.{after_step}
 use Rattle.tht_logic.specs.Rules.Commands.{after_alloc}
@@ -41,9 +50,10 @@ use Rattle.tht_logic.specs.Meanings.{meaning_in}
 use Rattle.tht_logic.specs.Rules.Scoped.{Table, instance_fits}
 use Rattle.assn_laws.specs.AssertionLaws.{Holds}
 use Rattle.assn_laws.specs.Laws.{IsModel}
-use Rattle.assn_laws.specs.Walked.{Knows, scope_after, AreSimple, Declares, any_fits, HasNoLemmas}
+use Rattle.assn_laws.specs.Walked.{Knows, KnowsProcs, scope_after, AreSimple, Declares, any_fits, HasNoLemmas}
 use Rattle.assn_laws.specs.Allocs.{with_cells, IsFree, values_in}
 use Rattle.assn_laws.specs.CellLaws.{HasOwn}
+use Rattle.assn_laws.specs.ControlLaws.{HeadIsInOrder}
 
 -- ---- what is in scope
 
@@ -58,11 +68,61 @@ GivesKeepScopes = (decl : Declarations) (c next : Context) (x : Give) (goal : As
 abbrev pub StepsKeepPredicates : Type 0
 StepsKeepPredicates = (known : Table) (names : walk.Scope) (x : StepKind) → Knows known names → Knows known (steps.after_step x names)
 
--- before main the walk knows the predicates of the file, and no variable
+-- nor a proc
+abbrev pub StepsKeepProcs : Type 0
+StepsKeepProcs = (procs : List ℕ → Option Head) (names : walk.Scope) (x : StepKind) → KnowsProcs procs names → KnowsProcs procs (steps.after_step x names)
+
+-- before main the walk knows the predicates and the procs of the file, and no variable
 abbrev pub MainBegins : Type 0
 MainBegins =
     (file : Source1) → WellSorted file → AreSimple file.decls
     → Matches (root_names file) (after_decls file.decls at_start).scope no_locals × Knows (predicates_of file.decls) (after_decls file.decls at_start).scope
+    × KnowsProcs (declared_in file).procs (after_decls file.decls at_start).scope
+
+-- Where these declarations stand in front, and others behind: the walk knows predicates and procs of the file, and no variable.
+abbrev pub DeclarationsBegin : Type 0
+DeclarationsBegin =
+    (file : Source1) → WellSorted file → AreSimple file.decls → (before after : List Decl) → file.decls ≡ before ++ after
+    → Matches (root_names file) (after_decls before at_start).scope no_locals × Knows (predicates_of file.decls) (after_decls before at_start).scope
+    × KnowsProcs (declared_in file).procs (after_decls before at_start).scope
+
+-- the names that are known in a proc, where these declarations stand in front of it
+abbrev pub names_in_proc : List Decl → Head → walk.Scope
+names_in_proc before x = in_command x (with_proc (after_decls before at_start).scope x)
+
+-- Before the body of a proc, where these names are known: the walk knows predicates and procs of the file, this one too, and the parameters and logical
+-- variables; it refuses nothing in the body, nor in the boxes, and the head is in order.
+pub record ProcBegins (file : Source1) (names : walk.Scope) (x : Head) (y : Body) : Type 0 where
+  pub matches : Matches (root_names file) names (head_scope x)
+  pub knows : Knows (predicates_of file.decls) names
+  pub procs : KnowsProcs (declared_in file).procs names
+  pub body_walked : body y (frame Outside x.sort) names ≡ None
+  pub pre_walked : assns.assn x.pre names ≡ None
+  pub new_result : new_name names x.result ≡ None
+  pub post_walked : assns.assn x.post (with_result names x.result x.sort) ≡ None
+  pub order : HeadIsInOrder (root_names file) (instance_fits (declared_in file)) x
+
+abbrev pub ProcsBegin : Type 0
+ProcsBegin =
+    (file : Source1) → WellSorted file → AreSimple file.decls → (before after : List Decl) (z : Decl) → file.decls ≡ before ++ z ∷ after
+    → (x : Head) (y : Body) → z.kind ≡ d.Proc x y → ProcBegins file (names_in_proc before x) x y
+
+-- A callee stands among the declarations, with others in front of it and behind it.
+pub record Stands (decls : List Decl) (x : Head) (y : Body) : Type 0 where
+  pub before : List Decl
+  pub at : Decl
+  pub after : List Decl
+  pub all : decls ≡ before ++ at ∷ after
+  pub is : at.kind ≡ d.Proc x y
+
+abbrev pub ProceduresStand : Type 0
+ProceduresStand = (decls : List Decl) (f : List ℕ) (x : Procedure) → procedures_of decls f ≡ Some x → Stands decls x.head x.body
+
+-- so the head of each proc is in order
+abbrev pub ProcsAreInOrder : Type 0
+ProcsAreInOrder =
+    (file : Source1) → WellSorted file → AreSimple file.decls → (f : List ℕ) (x : Head) → (declared_in file).procs f ≡ Some x
+    → HeadIsInOrder (root_names file) (instance_fits (declared_in file)) x
 
 -- the variables of the old scope are in the new one
 abbrev pub StillThere : Scope → Scope → Type 0

@@ -3,4 +3,5 @@ pub mod Laws
 pub mod Allocs
 pub mod Walked
 pub mod CellLaws
+pub mod ControlLaws
 pub mod FileLaws

@@ -7,6 +7,7 @@ use Rattle.tht_tree.specs.declared.give.Give.{Give}
 use Rattle.tht_tree.specs.declared.step.Step.{Step}
 use Rattle.tht_tree.specs.declared.step.StepKind.{StepKind}
 use Rattle.tht_tree.specs.declared.step.StepKind.TheVariants as s
+use Rattle.tht_tree.specs.declared.decl.Head.{Head}
 use Rattle.tht_tree.specs.declared.decl.Decl.{Decl}
 use Rattle.tht_tree.specs.declared.decl.DeclKind.{DeclKind}
 use Rattle.tht_tree.specs.declared.decl.DeclKind.TheVariants as d
@@ -15,6 +16,7 @@ use Rattle.tht_tree.specs.declared.state.Local.TheVariants.{Variable, Hypothesis
 use Rattle.tht_tree.specs.declared.walk.Class.{Class}
 use Rattle.tht_tree.specs.declared.walk.Class.TheVariants as c
 use Rattle.tht_tree.specs.declared.walk.Naming.TheVariants.{Nowhere}
+use Rattle.tht_tree.specs.declared.walk.Where.TheVariants.{Outside}
 use Rattle.tht_tree.specs.Values.{Env}
 use Rattle.tht_tree.specs.Syntax.{Names}
 use Rattle.tht_logic.specs.Programs.{root_names}
@@ -28,6 +30,8 @@ use Rattle.tht_tree.specs.Walk.Assns as walk_assns
 use Rattle.tht_tree.specs.Walk.Proofs as walk_proofs
 use Rattle.tht_tree.specs.Walk.Gives as walk_gives
 use Rattle.tht_tree.specs.Walk.Steps as walk_steps
+use Rattle.tht_tree.specs.Walk.Bodies.{call_sort, command}
+use Rattle.tht_tree.specs.Walk.Decls.{signature}
 use Rattle.tht_tree.specs.Walk.Files.{WellSorted}
 use Rattle.proof_laws.specs.Satisfied as satisfied
 use Rattle.proof_laws.specs.Scoped.{is_scoped}
@@ -35,7 +39,7 @@ use Rattle.proof_laws.specs.Walked.{Matches}
 use Rattle.tht_logic.specs.Satisfaction.{Meaning}
 use Rattle.tht_logic.specs.Rules.Definitions.{Predicate, Declarations, predicates_of}
 use Rattle.tht_logic.specs.Meanings.{meaning}
-use Rattle.tht_logic.specs.Rules.Scoped.{Signatures, Table, fits_in, params_of, instance_fits}
+use Rattle.tht_logic.specs.Rules.Scoped.{Signatures, Table, fit, fits_in, params_of, instance_fits}
 use Rattle.tht_logic.specs.Rules.Scoped as scoped
 use Rattle.assn_laws.specs.Laws.{InstancesMeanDefinitions, IsModel, ProofsHold, Premises}
 
@@ -50,15 +54,23 @@ ProvedIsTrue M =
 -- ---- assertions
 
 -- What the walk and a table of predicates have under one name: where one may name a predicate, its parameters have the same sorts
--- in the table; and a name that is new to the walk is new to the table.
+-- in the table. (Of a name that the walk does not know nothing is said: the table may have predicates that are declared later.)
 abbrev pub KnowsAt : Option Class → Option Predicate → Type 0
-KnowsAt None x = x ≡ None
+KnowsAt None x = Unit {0}
 KnowsAt (Some (c.Predicate who sorts Nowhere)) x = Unit {0}
 KnowsAt (Some (c.Predicate who sorts naming)) x = option_map (λ p. param_sorts (params_of p)) x ≡ Some sorts
 KnowsAt (Some class) x = Unit {0}
 
 abbrev pub Knows : Table → walk.Scope → Type 0
 Knows known names = (q : List ℕ) → KnowsAt (names q) (known q)
+
+-- What the walk and a table of heads have under one name: where the walk has a proc, its head has the sorts that the walk knows.
+abbrev pub KnowsProcAt : Option Class → Option Head → Type 0
+KnowsProcAt (Some (c.Proc f)) x = option_map signature x ≡ Some f
+KnowsProcAt _ x = Unit {0}
+
+abbrev pub KnowsProcs : (List ℕ → Option Head) → walk.Scope → Type 0
+KnowsProcs procs names = (f : List ℕ) → KnowsProcAt (names f) (procs f)
 
 -- the arguments of an instance in which the walk refuses nothing fit
 abbrev pub WalkedInstancesFit : Type 0
@@ -77,6 +89,24 @@ abbrev pub WalkedProgramsAreStorable : Type 0
 WalkedProgramsAreStorable =
     (roots : Names) (names : walk.Scope) (scope : Scope) → Matches roots names scope
     → (ts : List Term) → walk_terms.any_programs names ts ≡ None → All (λ t. is_storable_sort (sort_of roots scope t) ≡ true) ts
+
+-- ---- calls
+
+-- A call outside txns: the name is a proc's, the arguments fit its parameters and its logical variables, those in parentheses are program terms, and
+-- the walk knows the sort of the result.
+pub record CallIsInOrder (roots : Names) (procs : List ℕ → Option Head) (names : walk.Scope) (scope : Scope) (f : List ℕ) (ts us : List Term) : Type 0 where
+  pub head : Head
+  pub declared : procs f ≡ Some head
+  pub params : fit roots scope head.params ts ≡ true
+  pub logic : fit roots scope head.logic us ≡ true
+  pub programs : walk_terms.any_programs names ts ≡ None
+  pub result : call_sort (names f) ≡ head.sort
+
+-- a call in which the walk refuses nothing is in order
+abbrev pub WalkedCallsAreInOrder : Type 0
+WalkedCallsAreInOrder =
+    (roots : Names) (procs : List ℕ → Option Head) (names : walk.Scope) (scope : Scope) → Matches roots names scope → KnowsProcs procs names
+    → (f : List ℕ) (ts us : List Term) → command Outside names f ts us ≡ None → CallIsInOrder roots procs names scope f ts us
 
 -- ---- gives and steps
 

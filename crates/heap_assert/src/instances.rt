@@ -80,8 +80,8 @@ fn with_arguments(
     Ok(put_in_assn(alloc, case, &by)?)
 }
 
-// With an argument for each parameter, as far as there are both.
-fn add_arguments(
+/// With an argument for each parameter, as far as there are both.
+pub fn add_arguments(
     alloc: Global,
     by: Subst,
     params: &Items<Param>,

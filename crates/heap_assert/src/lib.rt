@@ -9,12 +9,10 @@ mod instances;
 mod putting;
 mod sameness;
 mod sizes;
-#[cfg(test)]
-mod tests;
 mod zeros;
 
 pub use atoms::flatten;
 pub use definition_end::DefinitionEnd;
-pub use instances::definition;
+pub use instances::{add_arguments, definition};
 pub use putting::put_in_assn;
 pub use sameness::alike;

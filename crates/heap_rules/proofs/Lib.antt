@@ -1,4 +1,5 @@
 pub mod PlacesByName
+pub mod ProcPlaces
 pub mod DefinedAs
 pub mod AtHand
 pub mod FrameParts

@@ -11,6 +11,7 @@ mod opening;
 mod parts;
 mod places;
 mod predicates;
+mod procs;
 mod refusals;
 mod rewriting;
 mod shapes;
@@ -22,7 +23,8 @@ pub use added::{add_atom, add_atoms, has_room, replace_atom};
 pub use atoms::{ascend, find_atom, forget, nodes_with, nodes_without, set_atom, take_atom};
 pub use names::{assume, bind};
 pub use places::Predicates;
-pub use refusals::refused;
+pub use refusals::{put_within, refused};
+pub use shapes::{Sides, as_disjunction};
 pub use sizes::{
     assn_fits, atoms_count, atoms_size, context_is_within, formula_fits, pair_fits, pair_size,
 };

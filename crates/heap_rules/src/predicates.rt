@@ -9,6 +9,7 @@ ghost use Rattle.heap_rules.specs.Following.{Makes};
 ghost use Rattle.heap_rules.specs.PredicatePlaces.{ArePlaces, name_of, with_name, places_in, predicate_at};
 
 use crate::places::{Places, Predicates};
+use crate::procs::procs_of;
 use crate::refusals::refused;
 use heap_assert::{DefinitionEnd, definition};
 use pure_proofs::Refusal;
@@ -22,13 +23,18 @@ use tht_tree::rule::RuleCode;
 use tht_tree::term::Term;
 
 impl<'a> Predicates<'a> {
-    /// The predicates in these declarations: the last one of a name counts. It takes one look-up for each.
+    /// The predicates and the procs in these declarations: the last one of a name counts. It takes one look-up for each.
     #[tactic(auto, using(crate::specs::Declarations::declared_by_is))]
     pub fn new(alloc: Global, decls: &'a [Decl]) -> Result<Predicates<'a>, Memory>
         ensures { IfOk result (λ p. declared_by p ≡ declared [] decls.now) }
     {
         let places = places_of(alloc, decls)?;
-        Ok(Predicates { decls, places })
+        let procs = procs_of(alloc, decls)?;
+        Ok(Predicates {
+            decls,
+            places,
+            procs,
+        })
     }
 
     /// The declaration of the predicate with this name.
@@ -113,8 +119,8 @@ fn predicate_name(kind: &DeclKind) -> Option<&Name>
     }
 }
 
-// The predicate with this name stands at this place.
-fn put_place(places: &mut Places, name: &Name, place: usize) -> Result<(), Memory>
+/// What has this name stands at this place.
+pub(crate) fn put_place(places: &mut Places, name: &Name, place: usize) -> Result<(), Memory>
     ensures { OnOk result ((x : List ℕ) → places_in places.new x ≡ with_name name.now place (places_in places.old) x) }
 {
     let name = name.copy_text()?;

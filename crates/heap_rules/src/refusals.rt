@@ -21,12 +21,7 @@ pub fn refused(spot: Spot, code: RuleCode) -> Refusal
 }
 
 /// The assertion with these put in, for the construct at this spot: refused where it is too large.
-pub(crate) fn put_within(
-    alloc: Global,
-    spot: Spot,
-    assn: &Assn,
-    by: &Subst,
-) -> Result<Assn, Refusal>
+pub fn put_within(alloc: Global, spot: Spot, assn: &Assn, by: &Subst) -> Result<Assn, Refusal>
     ensures { Makes result (put_or_refused spot (put_assn_within by.now assn.now)) }
 {
     match put_in_assn(alloc, assn, by) {

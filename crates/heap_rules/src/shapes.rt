@@ -6,7 +6,7 @@ ghost use Rattle.tht_logic.specs.Rules.Gives.{star_at, disjunction_at};
 use tht_tree::assn::Assn;
 
 /// Two assertions: the sides of a `*`, say.
-pub(crate) type Sides<'a> = (&'a Assn, &'a Assn);
+pub type Sides<'a> = (&'a Assn, &'a Assn);
 
 /// `p * q`
 pub(crate) fn as_star(assn: &Assn) -> Option<Sides<'_>>
@@ -18,8 +18,8 @@ pub(crate) fn as_star(assn: &Assn) -> Option<Sides<'_>>
     }
 }
 
-/// `either p q`
-pub(crate) fn as_disjunction(assn: &Assn) -> Option<Sides<'_>>
+/// The sides of `either p q`.
+pub fn as_disjunction(assn: &Assn) -> Option<Sides<'_>>
     ensures { MatchOption result (disjunction_at (out-Assn assn.now) ≡ None) (λ p. disjunction_at (out-Assn assn.now) ≡ Some (p.0.now, p.1.now)) }
 {
     match assn {

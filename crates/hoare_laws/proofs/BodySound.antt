@@ -1,122 +1,195 @@
--- A body that nothing refuses keeps its postcondition.
-use Rattle.std.proofs.Common.{◌≡◌, ℕ, zero, suc, Bool, true, false, cond, List, [], ◌∷◌, map, Option, None, Ok, Err, refl, sym, ◌∙◌, ap, subst}
-use Rattle.tht_tree.specs.declared.body.Body.{Body, out-Body}
-use Rattle.tht_tree.specs.declared.body.End.{End}
-use Rattle.tht_tree.specs.declared.body.EndKind.{EndKind}
-use Rattle.tht_tree.specs.declared.body.EndKind.TheVariants as ends
-use Rattle.tht_tree.specs.declared.body.Stmt.{Stmt}
-use Rattle.tht_tree.specs.declared.file.Source1.{Source1}
+-- A body that nothing refuses keeps to the aim: by induction over bodies, statements and ends, form by form.
+use Rattle.std.proofs.Common.{◌≡◌, ℕ, zero, suc, ◌≤◌, le_refl, arith, Bool, true, List, [], ◌∷◌, map, Option, None, Ok, Err, refl, sym, ◌∙◌, ap, subst}
+use mathlib.Core.Path.{fun_ext}
+use Rattle.tht_tree.specs.declared.assn.Assn.{Assn}
+use Rattle.tht_tree.specs.declared.body.Body.{Body, out-Body, roll-Body, ind-Body}
+use Rattle.tht_tree.specs.declared.body.End.{End, roll-End}
+use Rattle.tht_tree.specs.declared.body.EndKind.{EndKind, roll-EndKind, map-EndKind}
+use Rattle.tht_tree.specs.declared.body.EndKind.TheOpen as f
+use Rattle.tht_tree.specs.declared.body.Stmt.{Stmt, roll-Stmt}
+use Rattle.tht_tree.specs.declared.body.StmtKind.{StmtKind, roll-StmtKind, map-StmtKind}
 use Rattle.tht_tree.specs.declared.give.Give.{Give}
 use Rattle.tht_tree.specs.declared.plain.Spot.{Spot}
 use Rattle.tht_tree.specs.declared.rule.RuleRefusal.{RuleRefusal}
 use Rattle.tht_tree.specs.declared.state.Post.{Post}
 use Rattle.tht_tree.specs.declared.term.Term.{Term}
-use Rattle.tht_tree.specs.declared.walk.Frame.{Frame}
 use Rattle.tht_tree.specs.declared.walk.Where.TheVariants.{Outside}
-use Rattle.tht_tree.specs.Values.{Val, is, Env, bind, value_in}
-use Rattle.tht_tree.specs.Syntax.{Names, trm}
-use Rattle.tht_tree.specs.Terms.{fits}
-use Rattle.tht_tree.specs.Terms as logic
+use Rattle.tht_tree.specs.Values.{Val, Env}
+use Rattle.tht_tree.specs.Syntax.{Names}
 use Rattle.tht_tree.specs.Heaps.{Heap}
 use Rattle.tht_tree.specs.Rules.Context.{Context}
 use Rattle.tht_tree.specs.Walk.Names as walk
 use Rattle.tht_tree.specs.Walk.Bodies as w
-use Rattle.tht_tree.specs.Walk.Bodies.{InBody, statements, frame}
-use Rattle.tht_tree.proofs.TermValues as terms
-use Rattle.walk_laws.proofs.Levels.{stmt_is, end_is}
-use Rattle.tht_logic.specs.Assertions.{asn}
-use Rattle.tht_logic.specs.Programs.{stmts_code, end_code}
-use Rattle.tht_logic.specs.Machine.{Prog, Leaf, Ended, FrontBig, closed, value, no_env}
-use Rattle.tht_logic.specs.Satisfaction.{Satisfies}
+use Rattle.walk_laws.proofs.Levels as walked
+use Rattle.tht_logic.specs.Programs as p
+use Rattle.tht_logic.specs.Programs.{Whole, Before}
+use Rattle.tht_logic.specs.Machine.{closed}
 use Rattle.tht_logic.specs.Meanings.{meaning_in}
-use Rattle.tht_logic.specs.Soundness.{Assertion, Keeps, no_invariant, post_of}
+use Rattle.tht_logic.specs.SamePrograms.{same_program}
 use Rattle.tht_logic.specs.Rules.Checking.{Checked, and_then}
-use Rattle.tht_logic.specs.Rules.Commands.{after_stmt}
-use Rattle.tht_logic.specs.Rules.Bodies.{end_kind_refused, end_refused, stmts_refused}
+use Rattle.tht_logic.specs.Rules.Calls.{InBody}
 use Rattle.tht_logic.specs.Rules.Definitions.{Declarations}
-use Rattle.tht_logic.proofs.Outside.{keeps_value, keeps_big}
-use Rattle.assn_laws.specs.FileLaws.{IsReady}
-use Rattle.assn_laws.proofs.FileLaw.{file_returns_are_sound}
+use Rattle.tht_logic.specs.Rules.Bodies as rules
+use Rattle.tht_logic.specs.Rules.Bodies.{Statement, body_refused, end_refused, end_kind_refused, after_stmt, after_stmt_kind}
+use Rattle.tht_logic.proofs.Levels as programs
+use Rattle.tht_logic.proofs.RuleLevels as levels
+use Rattle.tht_logic.proofs.Closing.{same_program_is_one}
 use Rattle.assn_laws.proofs.Refusing.{nothing, behind_none}
-use Rattle.assn_laws.proofs.WalkedPrograms.{program_term}
-use Rattle.hoare_laws.specs.Laws.{IsInOrder, BodiesAreSound}
-use Rattle.hoare_laws.proofs.ProgramValues.{in_logic, value_of_sort, covering}
-use Rattle.hoare_laws.proofs.Growing.{same_scope}
-use Rattle.hoare_laws.proofs.WalkedStmts.{RetWalked, ret_walked, parts_is}
-use Rattle.hoare_laws.proofs.StmtSound.{IsAt, there, rule_keeps}
+use Rattle.hoare_laws.proofs.Places.{Setting, Aim, IsAt, Keeping, GoesOn, Meet, BodySound, StmtSound}
+use Rattle.hoare_laws.proofs.FileControl.{Control}
+use Rattle.hoare_laws.proofs.StmtSound.{read_sound, write_sound, alloc_sound, free_sound, step_sound}
+use Rattle.hoare_laws.proofs.CallSound.{call_sound}
+use Rattle.hoare_laws.proofs.DoSound.{do_sound, meet_fewer}
+use Rattle.hoare_laws.proofs.EndSound.{and_then_none, ret_sound, if_keeps, truth_keeps, sides_keep, sequence_keeps, dead_keeps}
 
-next_known : (o : Checked Context) (go : Context → Option RuleRefusal) → and_then o go ≡ None → (c : Context) × (o ≡ Ok c) × (go c ≡ None)
-next_known (Err r) go e = cc
-next_known (Ok c) go e = (c, refl, e)
+module _ (at : Setting) (laws : Control at.decl (meaning_in at.file)) where
+  abbrev decl : Declarations
+  decl = at.decl
 
-module _ (file : Source1) (decl : Declarations) (ready : IsReady file decl) (first : walk.Scope) (c0 : Context) (body : Body) (post : Post) (order : IsInOrder decl first c0 body post) (old : Env) where
   abbrev roots : Names
   roots = decl.proofs.roots
 
-  abbrev At : walk.Scope → Context → Env → Heap → Names → List Val → Type 0
-  At = IsAt file decl ready first c0.scope order.matches old
+  -- ---- what is sound of each part of a body
 
-  abbrev f : Frame
-  f = frame Outside post.sort
+  abbrev EndKindSound : EndKind → Type 0
+  EndKindSound k = (spot : Spot) → BodySound at (p.end_kind_code roots k) (w.end_kind k spot) (end_kind_refused decl k spot)
 
-  module _ (I : Assertion) (above : List ℕ) (b : ℕ) where
-    abbrev keeps : ℕ → Heap → Prog → Type 0
-    keeps k h p = Keeps I k above (Leaf b p) h (post_of (meaning_in file) roots old post.result post.assn)
+  abbrev StmtKindSound : StmtKind → Type 0
+  StmtKindSound k = (spot : Spot) → StmtSound at (p.stmt_kind_code roots k) (w.stmt_kind k spot) (after_stmt_kind decl k spot)
 
-    -- the machine's value of what is returned
-    returned : (names : walk.Scope) (c : Context) (env : Env) (h : Heap) (xs : Names) (vs : List Val) → At names c env h xs vs → (t : Term) (g : Give) → RetWalked names post.sort t g
-        → is (value vs (trm roots xs t)) ≡ logic.value roots env t
-    returned names c env h xs vs at t g walked =
-        let m = at.inside.matches in
-        let typed = program_term roots names c.scope m post.sort t walked.value in
-        let sorts = at.inside.state.satisfied.sorts in
-        let stored = terms.stored post.sort (logic.value roots env t) typed.storable
-        (terms.value_of_sort roots c.scope env at.inside.state.formed.no_root_hidden sorts t post.sort typed.of_sort) in
-        ap (λ z. is (value_in z)) (value_of_sort roots ready.declares.roots names c.scope m env xs vs at.values post.sort t walked.value ∙ stored.1) ∙ sym stored.1
+  abbrev WholeSound : Body → Type 0
+  WholeSound x = BodySound at (p.code roots x) (w.body x) (body_refused decl x)
 
-    end_keeps : (spot : Spot) (end : EndKind) (k : ℕ) (names : walk.Scope) (c : Context) (env : Env) (h : Heap) (xs : Names) (vs : List Val) → At names c env h xs vs
-        → w.end_kind end spot f names ≡ nothing → end_kind_refused decl spot end post c ≡ None → keeps k h (closed vs (end_code roots end xs))
-    end_keeps spot (ends.Ret t g) k names c env h xs vs at e ok = pick (fits no_env vs (trm roots xs t))
-      where
-        walked : RetWalked names post.sort t g
-        walked = ret_walked spot post.sort names t g e
+  abbrev EndSound : End → Type 0
+  EndSound x = BodySound at (p.end_code roots x) (w.end x) (end_refused decl x)
 
-        holds : Satisfies (meaning_in file) (bind old post.result (logic.value roots env t)) [] (asn roots [] post.assn) h
-        holds =
-            file_returns_are_sound file decl ready names c env h at.inside first c0.scope old order.matches order.knows (there file decl ready first c0.scope order.matches old names c env h xs vs at) at.same
-            spot t g post walked.give (in_logic names post.sort t walked.value) order.new_result order.post_walked ok
+  abbrev OneSound : Stmt → Type 0
+  OneSound x = StmtSound at (p.stmt_code roots x) (w.stmt x) (after_stmt decl x)
 
-        met : post_of (meaning_in file) roots old post.result post.assn (value vs (trm roots xs t)) h
-        met = subst (λ z. Satisfies (meaning_in file) (bind old post.result z) [] (asn roots [] post.assn) h) (sym (returned names c env h xs vs at t g walked)) holds
+  abbrev Ends : Type 0
+  Ends = (k : EndKind) × EndKindSound k
 
-        pick : (fit : Bool) → keeps k h (cond fit (Ended (value vs (trm roots xs t))) FrontBig)
-        pick true = keeps_value I k above b (value vs (trm roots xs t)) h _ met
-        pick false = keeps_big I k above b h _
-    end_keeps spot _ k names c env h xs vs at e ok = cc
+  abbrev Kinds : Type 0
+  Kinds = (k : StmtKind) × StmtKindSound k
 
-    stmts_keep : (ss : List Stmt) (end : End) (k : ℕ) (names : walk.Scope) (c : Context) (env : Env) (h : Heap) (xs : Names) (vs : List Val) → At names c env h xs vs
-        → statements (map w.stmt ss) (w.end end) f names ≡ nothing → stmts_refused decl ss (end_refused decl end post) c ≡ None
-        → keeps k h (closed vs (stmts_code roots ss (end_code roots end.kind) xs))
-    stmts_keep [] end k names c env h xs vs at e ok = end_keeps end.spot end.kind k names c env h xs vs at (sym (end_is end.spot end.kind f names) ∙ e) ok
-    stmts_keep (x ∷ ss) end zero names c env h xs vs at e ok = tt
-    stmts_keep (x ∷ ss) end (suc k) names c env h xs vs at e ok =
-        let parts = behind_none ((w.stmt x).walk f names) (statements (map w.stmt ss) (w.end end) f ((w.stmt x).after names)) e in
-        let here : (w.stmt_kind x.kind x.spot).walk f names ≡ nothing = sym (ap (λ z. z.walk f names) (stmt_is x.spot x.kind)) ∙ parts.0 in
-        let behind : statements (map w.stmt ss) (w.end end) f ((w.stmt_kind x.kind x.spot).after names) ≡ nothing =
-        sym (ap (λ z. statements (map w.stmt ss) (w.end end) f (z.after names)) (stmt_is x.spot x.kind)) ∙ parts.1 in
-        let next = next_known (after_stmt decl x.spot c x.kind) (stmts_refused decl ss (end_refused decl end post)) ok in
-        rule_keeps file decl ready first c0.scope order.matches old I above b (post_of (meaning_in file) roots old post.result post.assn) names c env h xs vs at
-        x.spot f next.0 (stmts_code roots ss (end_code roots end.kind)) k x.kind here next.1
-        (λ j later q ys ws there. stmts_keep ss end j ((w.stmt_kind x.kind x.spot).after names) next.0 later q ys ws there behind next.2)
+  abbrev Wholes : Type 0
+  Wholes = (x : Body) × WholeSound x
 
--- The law of bodies.
-pub bodies_are_sound : BodiesAreSound
-bodies_are_sound file decl ready names c body post order ok k b above env xs h covers holds =
-    stmts_keep file decl ready names c body post order env no_invariant above b (out-Body body).stmts (out-Body body).end k names c env h xs (map env xs)
-    (record {
-      inside = record { matches = order.matches; knows = order.knows; state = record { formed = order.formed; satisfied = holds } };
-      values = covering decl.proofs.roots names c.scope env xs order.matches covers;
-      grown = same_scope names;
-      same = λ y r e. refl;
-    })
-    (sym (parts_is body (frame Outside post.sort) names) ∙ order.body_walked) ok
+  abbrev Lasts : Type 0
+  Lasts = (x : End) × EndSound x
+
+  abbrev Ones : Type 0
+  Ones = (x : Stmt) × OneSound x
+
+  -- ---- statements
+
+  abbrev StmtLevel : f.StmtKind-F EndKind StmtKind Body End Stmt → Type 0
+  StmtLevel x = (spot : Spot) → StmtSound at (p.stmt_at roots (programs.stmt_level roots x)) (w.statement_at (walked.level x) spot) (rules.stmt_at decl (levels.stmt_parts decl x) spot)
+
+  abbrev unpaired_stmt : f.StmtKind-F Ends Kinds Wholes Lasts Ones → f.StmtKind-F EndKind StmtKind Body End Stmt
+  unpaired_stmt = map-StmtKind Ends Kinds Wholes Lasts Ones EndKind StmtKind Body End Stmt (λ z. z.0) (λ z. z.0) (λ z. z.0) (λ z. z.0) (λ z. z.0)
+
+  stmt_level : (y : f.StmtKind-F Ends Kinds Wholes Lasts Ones) → StmtLevel (unpaired_stmt y)
+  stmt_level (f.Read x r t i n q) spot = read_sound at spot x r t i n q
+  stmt_level (f.Write t u i q) spot = write_sound at spot t u i q
+  stmt_level (f.Alloc x ts) spot = alloc_sound at spot x ts
+  stmt_level (f.Free t i q) spot = free_sound at spot t i q
+  stmt_level (f.Call x c ts us g) spot = call_sound at laws spot x c ts us g
+  stmt_level (f.Do x r ns y box) spot = do_sound at laws spot x r ns (p.code roots y.0) (w.body y.0) (body_refused decl y.0) box y.1
+  stmt_level (f.Proof x) spot = step_sound at spot x
+  stmt_level _ spot = λ aim k meet names c next env h xs vs here e ok code goes_on. cc
+
+  -- ---- ends
+
+  abbrev walked_end : f.EndKind-F EndKind StmtKind Body End Stmt → f.EndKind-F (Spot → w.InBody) (Spot → w.Statement) w.InBody w.InBody w.Statement
+  walked_end = map-EndKind EndKind StmtKind Body End Stmt (Spot → w.InBody) (Spot → w.Statement) w.InBody w.InBody w.Statement w.end_kind w.stmt_kind w.body w.end w.stmt
+
+  abbrev EndLevel : f.EndKind-F EndKind StmtKind Body End Stmt → Type 0
+  EndLevel x = (spot : Spot) → BodySound at (p.end_at roots (programs.end_level roots x)) (w.end_at (walked_end x) spot) (rules.end_at decl (levels.end_parts decl x) spot)
+
+  abbrev unpaired_end : f.EndKind-F Ends Kinds Wholes Lasts Ones → f.EndKind-F EndKind StmtKind Body End Stmt
+  unpaired_end = map-EndKind Ends Kinds Wholes Lasts Ones EndKind StmtKind Body End Stmt (λ z. z.0) (λ z. z.0) (λ z. z.0) (λ z. z.0) (λ z. z.0)
+
+  -- two bodies that are one program
+  one : (x y : Body) → same_program x y ≡ true → p.code roots x ≡ p.code roots y
+  one x y e = fun_ext (same_program_is_one x y e roots)
+
+  end_level : (y : f.EndKind-F Ends Kinds Wholes Lasts Ones) → EndLevel (unpaired_end y)
+  end_level (f.Ret t g) spot aim k meet names c env h xs vs here e ok = ret_sound at laws spot t g aim k meet names c env h xs vs here e ok
+  end_level (f.If t n y z) spot aim k meet names c env h xs vs here e ok =
+      if_keeps at laws spot (p.code roots y.0) (p.code roots z.0) (w.body y.0) (w.body z.0) (body_refused decl y.0) (body_refused decl z.0) y.1 z.1 aim k meet names c env h xs vs here t n e ok
+  end_level (f.CaseAtom i y z) spot aim k meet names c env h xs vs here e ok =
+      sides_keep at laws spot (p.code roots y.0) (p.code roots z.0) (w.body y.0) (w.body z.0) (body_refused decl y.0) (body_refused decl z.0) y.1 z.1 aim k meet names c env h xs vs here
+      (same_program y.0 z.0) (one y.0 z.0) i e ok
+  end_level (f.CaseBool t n y z) spot aim k meet names c env h xs vs here e ok =
+      truth_keeps at laws spot (p.code roots y.0) (p.code roots z.0) (w.body y.0) (w.body z.0) (body_refused decl y.0) (body_refused decl z.0) y.1 z.1 aim k meet names c env h xs vs here
+      (same_program y.0 z.0) (one y.0 z.0) t n e ok
+  end_level (f.CaseSeq t n y x s z) spot aim k meet names c env h xs vs here e ok =
+      sequence_keeps at laws spot (p.code roots y.0) (p.code roots z.0) (w.body y.0) (w.body z.0) (body_refused decl y.0) (body_refused decl z.0) y.1 z.1 aim k meet names c env h xs vs here
+      (same_program y.0 z.0) (one y.0 z.0) t n x s e ok
+  end_level (f.Dead q y) spot aim k meet names c env h xs vs here e ok = dead_keeps at laws spot (p.code roots y.0) (w.body y.0) aim k names c env h xs vs here q e ok
+
+  -- ---- bodies
+
+  carried_stmt : (left right : Before) (a b : w.Statement) (s t : Statement) → left ≡ right → a ≡ b → s ≡ t → StmtSound at right b t → StmtSound at left a s
+  carried_stmt left right a b s t e g i sound = subst (λ z. StmtSound at z a s) (sym e) (subst (λ z. StmtSound at right z s) (sym g) (subst (StmtSound at right b) (sym i) sound))
+
+  carried_body : (left right : Whole) (a b : w.InBody) (s t : InBody) → left ≡ right → a ≡ b → s ≡ t → BodySound at right b t → BodySound at left a s
+  carried_body left right a b s t e g i sound = subst (λ z. BodySound at z a s) (sym e) (subst (λ z. BodySound at right z s) (sym g) (subst (BodySound at right b) (sym i) sound))
+
+  -- statements one after another, and an end
+  abbrev trees : List Ones → List Stmt
+  trees ss = map (λ z. z.0) ss
+
+  all_sound : (ss : List Ones) (last : Lasts) → BodySound at (p.in_order (map (p.stmt_code roots) (trees ss)) (p.end_code roots last.0)) (w.statements (map w.stmt (trees ss)) (w.end last.0))
+      (rules.statements decl (map (λ z. (z, after_stmt decl z)) (trees ss)) (end_refused decl last.0))
+  all_sound [] last aim k meet names c env h xs vs here e ok = last.1 aim k meet names c env h xs vs here e ok
+  all_sound (s ∷ ss) last aim k meet names c env h xs vs here e ok =
+      let parts = behind_none ((w.stmt s.0).walk (w.frame Outside aim.post.sort) names) (w.statements (map w.stmt (trees ss)) (w.end last.0) (w.frame Outside aim.post.sort) ((w.stmt s.0).after names)) e in
+      let next = and_then_none (after_stmt decl s.0 c) (rules.statements decl (map (λ z. (z, after_stmt decl z)) (trees ss)) (end_refused decl last.0) aim.post) ok in
+      s.1 aim k meet names c next.0 env h xs vs here parts.0 next.1 (p.in_order (map (p.stmt_code roots) (trees ss)) (p.end_code roots last.0))
+      (λ j l later q ys ws there. all_sound ss last aim j (meet_fewer at laws j k l meet) ((w.stmt s.0).after names) next.0 later q ys ws there parts.1 next.2)
+
+  -- ---- the induction
+
+  end_kind_step : (x : f.EndKind-F EndKind StmtKind Body End Stmt) → EndLevel x → EndKindSound (roll-EndKind x)
+  end_kind_step x sound spot =
+      carried_body (p.end_kind_code roots (roll-EndKind x)) (p.end_at roots (programs.end_level roots x)) (w.end_kind (roll-EndKind x) spot) (w.end_at (walked_end x) spot)
+      (end_kind_refused decl (roll-EndKind x) spot) (rules.end_at decl (levels.end_parts decl x) spot)
+      (programs.end_kind_is roots x) (fun_ext (λ g. fun_ext (λ names. walked.end_kind_is x spot g names))) (ap (λ g. g spot) (levels.end_kind_rule decl x)) (sound spot)
+
+  stmt_kind_step : (x : f.StmtKind-F EndKind StmtKind Body End Stmt) → StmtLevel x → StmtKindSound (roll-StmtKind x)
+  stmt_kind_step x sound spot =
+      carried_stmt (p.stmt_kind_code roots (roll-StmtKind x)) (p.stmt_at roots (programs.stmt_level roots x)) (w.stmt_kind (roll-StmtKind x) spot) (w.statement_at (walked.level x) spot)
+      (after_stmt_kind decl (roll-StmtKind x) spot) (rules.stmt_at decl (levels.stmt_parts decl x) spot)
+      (programs.stmt_kind_is roots x) (walked.stmt_kind_is x spot) (ap (λ g. g spot) (levels.stmt_kind_rule decl x)) (sound spot)
+
+  end_step : (x : End) → EndKindSound x.kind → EndSound x
+  end_step x sound =
+      carried_body (p.end_code roots x) (p.end_kind_code roots x.kind) (w.end x) (w.end_kind x.kind x.spot) (end_refused decl x) (end_kind_refused decl x.kind x.spot)
+      (programs.end_is roots x) (fun_ext (λ g. fun_ext (λ names. walked.end_is x.spot x.kind g names))) (levels.end_rule decl x) (sound x.spot)
+
+  stmt_step : (x : Stmt) → StmtKindSound x.kind → OneSound x
+  stmt_step x sound =
+      carried_stmt (p.stmt_code roots x) (p.stmt_kind_code roots x.kind) (w.stmt x) (w.stmt_kind x.kind x.spot) (after_stmt decl x) (after_stmt_kind decl x.kind x.spot)
+      (programs.stmt_is roots x) (walked.stmt_is x.spot x.kind) (levels.stmt_rule decl x) (sound x.spot)
+
+  abbrev BodyLevel : f.Body-F EndKind StmtKind Body End Stmt → Type 0
+  BodyLevel x = BodySound at (p.in_order (map (p.stmt_code roots) x.stmts) (p.end_code roots x.end)) (w.statements (map w.stmt x.stmts) (w.end x.end))
+      (rules.statements decl (map (λ z. (z, after_stmt decl z)) x.stmts) (end_refused decl x.end))
+
+  body_step : (x : f.Body-F EndKind StmtKind Body End Stmt) → BodyLevel x → WholeSound (roll-Body x)
+  body_step x sound =
+      carried_body (p.code roots (roll-Body x)) (p.in_order (map (p.stmt_code roots) x.stmts) (p.end_code roots x.end)) (w.body (roll-Body x)) (w.statements (map w.stmt x.stmts) (w.end x.end))
+      (body_refused decl (roll-Body x)) (rules.statements decl (map (λ z. (z, after_stmt decl z)) x.stmts) (end_refused decl x.end))
+      (programs.rolled_code roots x) (fun_ext (λ g. fun_ext (λ names. walked.body_is x.stmts x.end g names))) (levels.rolled_body decl x) sound
+
+  -- every body
+  pub bodies_sound : (x : Body) → WholeSound x
+  bodies_sound =
+      ind-Body EndKindSound StmtKindSound WholeSound EndSound OneSound
+      (λ x y is. end_kind_step x (subst EndLevel is (end_level y)))
+      (λ x y is. stmt_kind_step x (subst StmtLevel is (stmt_level y)))
+      (λ x y is. body_step x (subst BodyLevel is (all_sound y.stmts y.end)))
+      (λ x y is. end_step (roll-End x) (subst (λ (z : f.End-F EndKind StmtKind Body End Stmt). EndKindSound z.kind) is y.kind.1))
+      (λ x y is. stmt_step (roll-Stmt x) (subst (λ (z : f.Stmt-F EndKind StmtKind Body End Stmt). StmtKindSound z.kind) is y.kind.1))

@@ -20,7 +20,7 @@ use Rattle.tht_tree.specs.Walk.Sorts.{same_sort, wants, clash, of_logic, found_n
 use Rattle.tht_tree.specs.Walk.Terms.{term_of, program_of, any_program, any_programs}
 use Rattle.tht_tree.proofs.TermValues as terms
 use Rattle.tht_tree.proofs.TermValues.{Agree}
-use Rattle.tht_logic.specs.Bodies.{Covers}
+use Rattle.tht_logic.specs.Triples.{Covers}
 use Rattle.tht_logic.specs.Machine.{no_env}
 use Rattle.tht_logic.specs.Machine as machine
 use Rattle.proof_laws.specs.Walked.{MatchesAt, Matches}

@@ -1,10 +1,7 @@
--- What it is that the walk over names and sorts refuses nothing in a statement or an end, and what is in scope after it.
-use Rattle.std.proofs.Common.{◌≡◌, ℕ, List, [], ◌∷◌, map, sym, ◌∙◌, ap}
-use Rattle.tht_tree.specs.declared.body.StmtKind.{StmtKind}
-use Rattle.tht_tree.specs.declared.body.StmtKind.TheVariants as s
-use Rattle.tht_tree.specs.declared.body.EndKind.TheVariants as ends
+-- What it is that the walk over names and sorts refuses nothing in a statement or an end, by their uppermost level.
+use Rattle.std.proofs.Common.{◌≡◌, ℕ, List, [], ◌∷◌, Option, Some, None, sym, ◌∙◌}
+use Rattle.tht_tree.specs.declared.assn.Assn.{Assn}
 use Rattle.tht_tree.specs.declared.body.EndKind.TheOpen as b
-use Rattle.tht_tree.specs.declared.body.Body.{Body, out-Body, fold_out-Body}
 use Rattle.tht_tree.specs.declared.give.Give.{Give}
 use Rattle.tht_tree.specs.declared.plain.Sort.{Sort}
 use Rattle.tht_tree.specs.declared.plain.Sort.TheVariants as sort
@@ -14,153 +11,159 @@ use Rattle.tht_tree.specs.declared.step.Step.{Step}
 use Rattle.tht_tree.specs.declared.term.Term.{Term}
 use Rattle.tht_tree.specs.declared.walk.Frame.{Frame}
 use Rattle.tht_tree.specs.declared.walk.Where.TheVariants.{Outside}
-use Rattle.tht_tree.specs.Walk.Codes.{first, first_of}
+use Rattle.tht_tree.specs.Walk.Codes.{first, first_of, ◌▸◌}
 use Rattle.tht_tree.specs.Walk.Names as walk
-use Rattle.tht_tree.specs.Walk.Names.{with_result, with_hypothesis, new_name}
-use Rattle.tht_tree.specs.Walk.Terms.{program_of, any_program, any_programs, storable}
+use Rattle.tht_tree.specs.Walk.Names.{with_result, with_hypothesis, with_parts, new_name, new_parts}
+use Rattle.tht_tree.specs.Walk.Terms.{term_of, formula, program_of, any_program, any_programs, storable}
+use Rattle.tht_tree.specs.Walk.Kinds.{private_only}
+use Rattle.tht_tree.specs.Walk.Assns.{assn}
 use Rattle.tht_tree.specs.Walk.Proofs.{proof}
 use Rattle.tht_tree.specs.Walk.Gives as gives
 use Rattle.tht_tree.specs.Walk.Steps as steps
 use Rattle.tht_tree.specs.Walk.Bodies as w
-use Rattle.tht_tree.specs.Walk.Bodies.{InBody, Statement, frame, new_result, place_term, not_in_lemma, statements, stmt_kind, end_kind, statement_at, end_at}
-use Rattle.walk_laws.proofs.Levels.{stmt_kind_is, end_kind_is}
+use Rattle.tht_tree.specs.Walk.Bodies.{InBody, Statement, frame, new_result, place_term, not_in_lemma, private_box, result_box, command, stmt_at, end_at}
 use Rattle.proof_laws.proofs.WalkedTerms.{no_walk_code, first_none}
-use Rattle.assn_laws.proofs.Refusing.{nothing, construct_none, first_of_none}
-
--- ---- statements, by their level
-
-read_is : (spot : Spot) (x : List ℕ) (r : Sort) (t : Term) (i : ℕ) (h : List ℕ) (q : Proof) → stmt_kind (s.Read x r t i h q) spot ≡ statement_at (b.Read x r t i h q) spot
-read_is spot x r t i h q = ap (λ z. stmt_kind z spot) (sym (s.rolls-Read x r t i h q)) ∙ stmt_kind_is (b.Read x r t i h q) spot
-
-write_is : (spot : Spot) (t u : Term) (i : ℕ) (q : Proof) → stmt_kind (s.Write t u i q) spot ≡ statement_at (b.Write t u i q) spot
-write_is spot t u i q = ap (λ z. stmt_kind z spot) (sym (s.rolls-Write t u i q)) ∙ stmt_kind_is (b.Write t u i q) spot
-
-alloc_is : (spot : Spot) (x : List ℕ) (ts : List Term) → stmt_kind (s.Alloc x ts) spot ≡ statement_at (b.Alloc x ts) spot
-alloc_is spot x ts = ap (λ z. stmt_kind z spot) (sym (s.rolls-Alloc x ts)) ∙ stmt_kind_is (b.Alloc x ts) spot
-
-free_is : (spot : Spot) (t : Term) (i : ℕ) (q : Proof) → stmt_kind (s.Free t i q) spot ≡ statement_at (b.Free t i q) spot
-free_is spot t i q = ap (λ z. stmt_kind z spot) (sym (s.rolls-Free t i q)) ∙ stmt_kind_is (b.Free t i q) spot
-
-step_is : (spot : Spot) (x : Step) → stmt_kind (s.Proof x) spot ≡ statement_at (b.Proof x) spot
-step_is spot x = ap (λ z. stmt_kind z spot) (sym (s.rolls-Proof x)) ∙ stmt_kind_is (b.Proof x) spot
-
-ret_is : (spot : Spot) (t : Term) (g : Give) (f : Frame) (names : walk.Scope) → end_kind (ends.Ret t g) spot f names ≡ end_at (b.Ret t g) spot f names
-ret_is spot t g f names = ap (λ z. end_kind z spot f names) (sym (ends.rolls-Ret t g)) ∙ end_kind_is (b.Ret t g) spot f names
+use Rattle.assn_laws.proofs.Refusing.{nothing, construct_none, behind_none, first_of_none}
 
 -- ---- what is refused in none of their parts
 
-pub record ReadWalked (names : walk.Scope) (x : List ℕ) (r : Sort) (t : Term) (h : List ℕ) (q : Proof) (after : walk.Scope) : Type 0 where
+pub record ReadWalked (names : walk.Scope) (x : List ℕ) (r : Sort) (t : Term) (h : List ℕ) (q : Proof) : Type 0 where
   pub new : new_name names x ≡ no_walk_code
   pub new_hyp : new_name (with_result names x r) h ≡ no_walk_code
   pub place : program_of names sort.Loc t ≡ no_walk_code
   pub proved : proof q names ≡ nothing
-  pub after_is : after ≡ with_hypothesis (with_result names x r) h
 
-pub record WriteWalked (names : walk.Scope) (t u : Term) (q : Proof) (after : walk.Scope) : Type 0 where
+pub record WriteWalked (names : walk.Scope) (t u : Term) (q : Proof) : Type 0 where
   pub place : program_of names sort.Loc t ≡ no_walk_code
   pub value : any_program names u ≡ no_walk_code
   pub proved : proof q names ≡ nothing
-  pub after_is : after ≡ names
 
-pub record AllocWalked (names : walk.Scope) (x : List ℕ) (ts : List Term) (after : walk.Scope) : Type 0 where
+pub record AllocWalked (names : walk.Scope) (x : List ℕ) (ts : List Term) : Type 0 where
   pub new : new_name names x ≡ no_walk_code
   pub values : any_programs names ts ≡ no_walk_code
-  pub after_is : after ≡ with_result names x sort.Loc
 
-pub record FreeWalked (names : walk.Scope) (t : Term) (q : Proof) (after : walk.Scope) : Type 0 where
+pub record FreeWalked (names : walk.Scope) (t : Term) (q : Proof) : Type 0 where
   pub place : program_of names sort.Loc t ≡ no_walk_code
   pub proved : proof q names ≡ nothing
-  pub after_is : after ≡ names
-
-pub record StepWalked (names : walk.Scope) (x : Step) (after : walk.Scope) : Type 0 where
-  pub step : steps.step x names ≡ nothing
-  pub after_is : after ≡ steps.after_step x.kind names
 
 pub record RetWalked (names : walk.Scope) (r : Sort) (t : Term) (g : Give) : Type 0 where
   pub value : program_of names r t ≡ no_walk_code
   pub give : gives.give g names ≡ nothing
 
-module _ (spot : Spot) (f : Frame) (names : walk.Scope) where
-  abbrev pub Walked : StmtKind → Type 0
-  Walked kind = (stmt_kind kind spot).walk f names ≡ nothing
+pub record CallWalked (names : walk.Scope) (x c : List ℕ) (ts us : List Term) (g : Give) : Type 0 where
+  pub new : new_name names x ≡ no_walk_code
+  pub command : command Outside names c ts us ≡ no_walk_code
+  pub give : gives.give g names ≡ nothing
 
-  abbrev pub after : StmtKind → walk.Scope
-  after kind = (stmt_kind kind spot).after names
+pub record DoWalked (names : walk.Scope) (x : List ℕ) (r : Sort) (p : Assn) : Type 0 where
+  pub new : new_name names x ≡ no_walk_code
+  pub stored : storable r ≡ no_walk_code
+  pub box : assn p (with_result names x r) ≡ no_walk_code
 
-  walked_at : (one two : Statement) → one ≡ two → one.walk f names ≡ nothing → two.walk f names ≡ nothing
-  walked_at one two e g = sym (ap (λ z. z.walk f names) e) ∙ g
+module _ (spot : Spot) (names : walk.Scope) where
+  -- ---- statements outside atomic blocks
 
-  after_at : (one two : Statement) → one ≡ two → one.after names ≡ two.after names
-  after_at one two e = ap (λ z. z.after names) e
+  module _ (s : Sort) where
+    abbrev f : Frame
+    f = frame Outside s
 
-  pub read_walked : (x : List ℕ) (r : Sort) (t : Term) (i : ℕ) (h : List ℕ) (q : Proof) → Walked (s.Read x r t i h q) → ReadWalked names x r t h q (after (s.Read x r t i h q))
-  read_walked x r t i h q e =
-      let level = read_is spot x r t i h q in
-      let own = first (new_result names x r) (new_name (with_result names x r) h) in
-      let all = first_of (own ∷ place_term names t ∷ not_in_lemma f.place ∷ []) in
-      let parts = construct_none spot all (proof q names) (walked_at (stmt_kind (s.Read x r t i h q) spot) (statement_at (b.Read x r t i h q) spot) level e) in
-      let tests = first_of_none own (place_term names t ∷ not_in_lemma f.place ∷ []) parts.0 in
-      let bound = first_none (new_result names x r) (new_name (with_result names x r) h) tests.0 in
-      record {
-        new = (first_none (new_name names x) (storable r) bound.0).0;
-        new_hyp = bound.1;
-        place = (first_of_none (place_term names t) (not_in_lemma f.place ∷ []) tests.1).0;
-        proved = parts.1;
-        after_is = after_at (stmt_kind (s.Read x r t i h q) spot) (statement_at (b.Read x r t i h q) spot) level;
-      }
+    pub read_walked : (x : List ℕ) (r : Sort) (t : Term) (i : ℕ) (h : List ℕ) (q : Proof) → stmt_at (b.Read x r t i h q) spot f names ≡ nothing → ReadWalked names x r t h q
+    read_walked x r t i h q e =
+        let own = first (new_result names x r) (new_name (with_result names x r) h) in
+        let all = first_of (own ∷ place_term names t ∷ not_in_lemma Outside ∷ []) in
+        let parts = construct_none spot all (proof q names) e in
+        let tests = first_of_none own (place_term names t ∷ not_in_lemma Outside ∷ []) parts.0 in
+        let bound = first_none (new_result names x r) (new_name (with_result names x r) h) tests.0 in
+        record {
+          new = (first_none (new_name names x) (storable r) bound.0).0;
+          new_hyp = bound.1;
+          place = (first_of_none (place_term names t) (not_in_lemma Outside ∷ []) tests.1).0;
+          proved = parts.1;
+        }
 
-  pub write_walked : (t u : Term) (i : ℕ) (q : Proof) → Walked (s.Write t u i q) → WriteWalked names t u q (after (s.Write t u i q))
-  write_walked t u i q e =
-      let level = write_is spot t u i q in
-      let all = first_of (place_term names t ∷ any_program names u ∷ not_in_lemma f.place ∷ []) in
-      let parts = construct_none spot all (proof q names) (walked_at (stmt_kind (s.Write t u i q) spot) (statement_at (b.Write t u i q) spot) level e) in
-      let tests = first_of_none (place_term names t) (any_program names u ∷ not_in_lemma f.place ∷ []) parts.0 in
-      record {
-        place = tests.0;
-        value = (first_of_none (any_program names u) (not_in_lemma f.place ∷ []) tests.1).0;
-        proved = parts.1;
-        after_is = after_at (stmt_kind (s.Write t u i q) spot) (statement_at (b.Write t u i q) spot) level;
-      }
+    pub write_walked : (t u : Term) (i : ℕ) (q : Proof) → stmt_at (b.Write t u i q) spot f names ≡ nothing → WriteWalked names t u q
+    write_walked t u i q e =
+        let all = first_of (place_term names t ∷ any_program names u ∷ not_in_lemma Outside ∷ []) in
+        let parts = construct_none spot all (proof q names) e in
+        let tests = first_of_none (place_term names t) (any_program names u ∷ not_in_lemma Outside ∷ []) parts.0 in
+        record {
+          place = tests.0;
+          value = (first_of_none (any_program names u) (not_in_lemma Outside ∷ []) tests.1).0;
+          proved = parts.1;
+        }
 
-  pub alloc_walked : (x : List ℕ) (ts : List Term) → Walked (s.Alloc x ts) → AllocWalked names x ts (after (s.Alloc x ts))
-  alloc_walked x ts e =
-      let level = alloc_is spot x ts in
-      let all = first_of (new_name names x ∷ any_programs names ts ∷ not_in_lemma f.place ∷ []) in
-      let parts = construct_none spot all nothing (walked_at (stmt_kind (s.Alloc x ts) spot) (statement_at (b.Alloc x ts) spot) level e) in
-      let tests = first_of_none (new_name names x) (any_programs names ts ∷ not_in_lemma f.place ∷ []) parts.0 in
-      record {
-        new = tests.0;
-        values = (first_of_none (any_programs names ts) (not_in_lemma f.place ∷ []) tests.1).0;
-        after_is = after_at (stmt_kind (s.Alloc x ts) spot) (statement_at (b.Alloc x ts) spot) level;
-      }
+    pub alloc_walked : (x : List ℕ) (ts : List Term) → stmt_at (b.Alloc x ts) spot f names ≡ nothing → AllocWalked names x ts
+    alloc_walked x ts e =
+        let all = first_of (new_name names x ∷ any_programs names ts ∷ not_in_lemma Outside ∷ []) in
+        let parts = construct_none spot all nothing e in
+        let tests = first_of_none (new_name names x) (any_programs names ts ∷ not_in_lemma Outside ∷ []) parts.0 in
+        record { new = tests.0; values = (first_of_none (any_programs names ts) (not_in_lemma Outside ∷ []) tests.1).0 }
 
-  pub free_walked : (t : Term) (i : ℕ) (q : Proof) → Walked (s.Free t i q) → FreeWalked names t q (after (s.Free t i q))
-  free_walked t i q e =
-      let level = free_is spot t i q in
-      let all = first (place_term names t) (not_in_lemma f.place) in
-      let parts = construct_none spot all (proof q names) (walked_at (stmt_kind (s.Free t i q) spot) (statement_at (b.Free t i q) spot) level e) in
-      record {
-        place = (first_none (place_term names t) (not_in_lemma f.place) parts.0).0;
-        proved = parts.1;
-        after_is = after_at (stmt_kind (s.Free t i q) spot) (statement_at (b.Free t i q) spot) level;
-      }
+    pub free_walked : (t : Term) (i : ℕ) (q : Proof) → stmt_at (b.Free t i q) spot f names ≡ nothing → FreeWalked names t q
+    free_walked t i q e =
+        let parts = construct_none spot (first (place_term names t) (not_in_lemma Outside)) (proof q names) e in
+        record { place = (first_none (place_term names t) (not_in_lemma Outside) parts.0).0; proved = parts.1 }
 
-  pub step_walked : (x : Step) → Walked (s.Proof x) → StepWalked names x (after (s.Proof x))
-  step_walked x e =
-      let level = step_is spot x in
-      record {
-        step = walked_at (stmt_kind (s.Proof x) spot) (statement_at (b.Proof x) spot) level e;
-        after_is = after_at (stmt_kind (s.Proof x) spot) (statement_at (b.Proof x) spot) level;
-      }
+    pub call_walked : (x c : List ℕ) (ts us : List Term) (g : Give) → stmt_at (b.Call x c ts us g) spot f names ≡ nothing → CallWalked names x c ts us g
+    call_walked x c ts us g e =
+        let parts = construct_none spot (first (new_name names x) (command Outside names c ts us)) (gives.give g names) e in
+        let own = first_none (new_name names x) (command Outside names c ts us) parts.0 in
+        record { new = own.0; command = own.1; give = parts.1 }
 
--- an end outside a lemma
-pub ret_walked : (spot : Spot) (r : Sort) (names : walk.Scope) (t : Term) (g : Give) → end_kind (ends.Ret t g) spot (frame Outside r) names ≡ nothing → RetWalked names r t g
-ret_walked spot r names t g e =
-    let parts = construct_none spot (program_of names r t) (gives.give g names) (sym (ret_is spot t g (frame Outside r) names) ∙ e) in
-    record { value = parts.0; give = parts.1 }
+    -- a `do`, and its body
+    pub do_walked : (x : List ℕ) (r : Sort) (ns : List ℕ) (body : InBody) (box : Assn) → stmt_at (b.Do x r ns body box) spot f names ≡ nothing
+        → DoWalked names x r box × (body (frame Outside r) names ≡ nothing)
+    do_walked x r ns body box e =
+        let all = first_of (new_result names x r ∷ private_box names x r box ∷ not_in_lemma Outside ∷ []) in
+        let parts = construct_none spot all (body (frame Outside r) names) e in
+        let tests = first_of_none (new_result names x r) (private_box names x r box ∷ not_in_lemma Outside ∷ []) parts.0 in
+        let bound = first_none (new_name names x) (storable r) tests.0 in
+        let boxes = first_none (result_box names x r box) (private_only names box) (first_of_none (private_box names x r box) (not_in_lemma Outside ∷ []) tests.1).0 in
+        (record { new = bound.0; stored = bound.1; box = boxes.0 }, parts.1)
 
--- ---- bodies
+  -- ---- ends outside lemmas
 
-pub parts_is : (x : Body) (f : Frame) (names : walk.Scope) → w.body x f names ≡ statements (map w.stmt (out-Body x).stmts) (w.end (out-Body x).end) f names
-unfolding w.body w.stmt w.end
-parts_is x f names = ap (λ g. g f names) (fold_out-Body (Spot → InBody) (Spot → Statement) InBody InBody Statement w.end_at w.statement_at w.body_at w.spotted_end w.spotted_stmt x)
+  module _ (r : Sort) where
+    abbrev g : Frame
+    g = frame Outside r
+
+    pub ret_walked : (t : Term) (x : Give) → end_at (b.Ret t x) spot g names ≡ nothing → RetWalked names r t x
+    ret_walked t x e =
+        let parts = construct_none spot (program_of names r t) (gives.give x names) e in
+        record { value = parts.0; give = parts.1 }
+
+    -- each of two bodies, and what stands before them
+    pub if_walked : (t : Term) (h : List ℕ) (body other : InBody) → end_at (b.If t h body other) spot g names ≡ nothing
+        → (program_of names sort.Bool t ≡ no_walk_code) × (new_name names h ≡ no_walk_code) × (body g (with_hypothesis names h) ≡ nothing) × (other g (with_hypothesis names h) ≡ nothing)
+    if_walked t h body other e =
+        let all = first_of (program_of names sort.Bool t ∷ new_name names h ∷ not_in_lemma Outside ∷ []) in
+        let parts = construct_none spot all (body g (with_hypothesis names h) ▸ other g (with_hypothesis names h)) e in
+        let tests = first_of_none (program_of names sort.Bool t) (new_name names h ∷ not_in_lemma Outside ∷ []) parts.0 in
+        let bodies = behind_none (body g (with_hypothesis names h)) (other g (with_hypothesis names h)) parts.1 in
+        (tests.0, (first_of_none (new_name names h) (not_in_lemma Outside ∷ []) tests.1).0, bodies.0, bodies.1)
+
+    pub sides_walked : (i : ℕ) (body other : InBody) → end_at (b.CaseAtom i body other) spot g names ≡ nothing → (body g names ≡ nothing) × (other g names ≡ nothing)
+    sides_walked i body other e = behind_none (body g names) (other g names) e
+
+    pub truth_walked : (t : Term) (h : List ℕ) (body other : InBody) → end_at (b.CaseBool t h body other) spot g names ≡ nothing
+        → (formula names t ≡ no_walk_code) × (new_name names h ≡ no_walk_code) × (body g (with_hypothesis names h) ≡ nothing) × (other g (with_hypothesis names h) ≡ nothing)
+    truth_walked t h body other e =
+        let parts = construct_none spot (first (formula names t) (new_name names h)) (body g (with_hypothesis names h) ▸ other g (with_hypothesis names h)) e in
+        let tests = first_none (formula names t) (new_name names h) parts.0 in
+        let bodies = behind_none (body g (with_hypothesis names h)) (other g (with_hypothesis names h)) parts.1 in
+        (tests.0, tests.1, bodies.0, bodies.1)
+
+    pub sequence_walked : (t : Term) (h : List ℕ) (body : InBody) (x s : List ℕ) (other : InBody) → end_at (b.CaseSeq t h body x s other) spot g names ≡ nothing
+        → (term_of names sort.Seq t ≡ no_walk_code) × (new_name names h ≡ no_walk_code) × (new_parts (with_hypothesis names h) x s ≡ no_walk_code)
+        × (body g (with_hypothesis names h) ≡ nothing) × (other g (with_parts (with_hypothesis names h) x s) ≡ nothing)
+    sequence_walked t h body x s other e =
+        let inner = with_hypothesis names h in
+        let all = first_of (term_of names sort.Seq t ∷ new_name names h ∷ new_parts inner x s ∷ []) in
+        let parts = construct_none spot all (body g inner ▸ other g (with_parts inner x s)) e in
+        let tests = first_of_none (term_of names sort.Seq t) (new_name names h ∷ new_parts inner x s ∷ []) parts.0 in
+        let others = first_of_none (new_name names h) (new_parts inner x s ∷ []) tests.1 in
+        let bodies = behind_none (body g inner) (other g (with_parts inner x s)) parts.1 in
+        (tests.0, others.0, others.1, bodies.0, bodies.1)
+
+    pub dead_walked : (q : Proof) (body : InBody) → end_at (b.Dead q body) spot g names ≡ nothing → (proof q names ≡ nothing) × (body g names ≡ nothing)
+    dead_walked q body e = behind_none (proof q names) (body g names) e

@@ -8,3 +8,7 @@ pub mod Agreeing
 pub mod Following
 pub mod BodyRefusals
 pub mod BuiltParts
+pub mod Rules
+pub mod Branching
+pub mod InnerBlocks
+pub mod Calling

@@ -7,8 +7,9 @@ use Rattle.tht_tree.specs.declared.term.Term.TheVariants as term
 use Rattle.tht_tree.specs.declared.assn.Assn.TheVariants as a
 use Rattle.tht_tree.specs.declared.rule.RuleCode.TheVariants.{R2}
 use Rattle.tht_tree.specs.declared.rule.RuleRefusal.{RuleRefusal}
+use Rattle.tht_tree.specs.declared.state.State.{State}
 use Rattle.tht_tree.specs.Rules.Sizes.{formula_fits}
-use Rattle.tht_tree.specs.Rules.Context.{Context, Scope, atom_at}
+use Rattle.tht_tree.specs.Rules.Context.{Context, Scope, context_of, atom_at}
 use Rattle.tht_tree.specs.Rules.Scoping.{is_of, sort_of}
 use Rattle.tht_tree.specs.Rules.Refusals.{needs, ◌▸◌}
 use Rattle.tht_tree.specs.Rules.Known.{Declared}
@@ -30,6 +31,11 @@ undeclared = without_lemmas []
 abbrev pub Says : {A : Type 0} → Result A Refusal → Checked Context → Context → Type 0
 Says (Ok x) said now = said ≡ Ok now
 Says (Err e) said now = Refuses e said
+
+-- a state with what is known then, or they refuse
+abbrev pub MakesState : Result State Refusal → Checked Context → Type 0
+MakesState (Ok s) said = said ≡ Ok (context_of s)
+MakesState (Err e) said = Refuses e said
 
 -- ---- cells
 

@@ -1,71 +1,26 @@
-// The rules of statements, over what is known.
-ghost use Rattle.std.specs.Prelude.{◌≡◌, [], IfOk, IfErr};
+// The rules of statements on private cells.
+ghost use Rattle.std.specs.Prelude.{◌≡◌, IfOk, IfErr};
 ghost use Rattle.tht_tree.specs.declared.term.Term.TheVariants.{Eq, Var};
 ghost use Rattle.tht_tree.specs.Rules.Context.{context_of};
-ghost use Rattle.tht_logic.specs.Rules.Commands.{after_stmt, after_read, after_write, after_free};
-ghost use Rattle.heap_rules.specs.Declarations.{declared_by};
+ghost use Rattle.tht_logic.specs.Rules.Commands.{after_read, after_write, after_free};
 ghost use Rattle.hoare_rules.specs.Cells.{Says, undeclared};
 ghost use Rattle.hoare_rules.specs.Steps.{learnt, written, freed};
 
-use crate::allocs::allocate;
 use crate::atoms::{ascend, cell_at, set_cell_value, take_atom};
 use crate::cells::{NamedCell, find_named};
 use crate::names::bind;
-use crate::steps::check_step;
-use heap_rules::{Predicates, context_is_within, pair_fits, pair_size, refused};
+use heap_rules::{context_is_within, pair_fits, pair_size, refused};
 use pure_proofs::{Known, Refusal};
 use sqlite_items::Boxed;
 use std::alloc::Global;
-use tht_tree::body::{Stmt, StmtKind};
 use tht_tree::plain::{Name, Sort, Spot};
 use tht_tree::proof::Proof;
 use tht_tree::rule::RuleCode;
 use tht_tree::state::{Hyp, Local};
 use tht_tree::term::{Term, term_size};
 
-/// Goes on over a statement. After an `Err` what is known is of no use.
-pub(crate) fn check_stmt(
-    alloc: Global,
-    known: &mut Known,
-    predicates: &Predicates<'_>,
-    stmt: &Stmt,
-) -> Result<(), Refusal>
-    ensures { Says result (after_stmt (declared_by predicates.now) stmt.now.spot (context_of known.old.state) stmt.now.kind) (context_of known.new.state) }
-{
-    check_kind(alloc, known, predicates, stmt.spot, &stmt.kind)
-}
-
-// A statement, by its form.
-#[tactic(auto, unfolding(heap_rules::specs::Declarations::declared_by))]
-fn check_kind(
-    alloc: Global,
-    known: &mut Known,
-    predicates: &Predicates<'_>,
-    spot: Spot,
-    kind: &StmtKind,
-) -> Result<(), Refusal>
-    ensures { Says result (after_stmt (declared_by predicates.now) spot (context_of known.old.state) kind.now) (context_of known.new.state) }
-{
-    match kind {
-        StmtKind::Read(x, sort, place, number, hyp, proof) => {
-            let cell = named_cell(spot, place, *number, proof);
-            read(alloc, known, cell, x, *sort, hyp)
-        }
-        StmtKind::Write(place, value, number, proof) => {
-            let cell = named_cell(spot, place, *number, proof);
-            write(alloc, known, cell, value.get())
-        }
-        StmtKind::Alloc(x, cells) => allocate(alloc, known, spot, x, cells.as_slice()),
-        StmtKind::Free(place, number, proof) => {
-            let cell = named_cell(spot, place, *number, proof);
-            free(alloc, known, cell)
-        }
-        StmtKind::Proof(step) => check_step(alloc, known, predicates, step),
-        _ => Err(refused(spot, RuleCode::R5)),
-    }
-}
-
-fn named_cell<'a>(
+/// The cell that a command at this spot names.
+pub(crate) fn named_cell<'a>(
     spot: Spot,
     place: &'a Boxed<Term>,
     number: u64,
@@ -86,7 +41,8 @@ fn named_cell<'a>(
 
 // ---- reads
 
-fn read(
+/// Reads a cell: the name has its value.
+pub(crate) fn read(
     alloc: Global,
     known: &mut Known,
     cell: NamedCell<'_>,
@@ -133,7 +89,13 @@ fn equation(alloc: Global, hyp: &Name, name: &Name, value: &Term) -> Result<Hyp,
 
 // ---- writes
 
-fn write(alloc: Global, known: &mut Known, cell: NamedCell<'_>, value: &Term) -> Result<(), Refusal>
+/// Writes a cell.
+pub(crate) fn write(
+    alloc: Global,
+    known: &mut Known,
+    cell: NamedCell<'_>,
+    value: &Term,
+) -> Result<(), Refusal>
     ensures { Says result (after_write undeclared cell.entry.spot (context_of known.old.state) cell.entry.place.now value.now cell.entry.number cell.entry.proof.now) (context_of known.new.state) }
 {
     find_named(alloc, known, cell, None)?;
@@ -167,7 +129,8 @@ fn put_value(
 
 // ---- frees
 
-fn free(alloc: Global, known: &mut Known, cell: NamedCell<'_>) -> Result<(), Refusal>
+/// Takes a cell away.
+pub(crate) fn free(alloc: Global, known: &mut Known, cell: NamedCell<'_>) -> Result<(), Refusal>
     ensures { Says result (after_free undeclared cell.entry.spot (context_of known.old.state) cell.entry.place.now cell.entry.number cell.entry.proof.now) (context_of known.new.state) }
 {
     find_named(alloc, known, cell, None)?;

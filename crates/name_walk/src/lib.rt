@@ -15,5 +15,3 @@ mod lemmas;
 mod placing;
 mod predicates;
 mod stmts;
-#[cfg(test)]
-mod tests;

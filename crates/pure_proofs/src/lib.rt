@@ -16,10 +16,9 @@ mod rows;
 mod shapes;
 mod sizes;
 mod sorts;
-#[cfg(test)]
-mod tests;
 mod verdict;
 
 pub use known::Known;
 pub use prover::prove;
 pub use refusal::Refusal;
+pub use sizes::state_size;

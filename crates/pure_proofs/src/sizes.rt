@@ -80,7 +80,7 @@ pub(crate) fn conses_fit(x: &Term, s: &Term, y: &Term, u: &Term) -> bool
 }
 
 /// How many nodes the hypotheses and atoms have: at most 2^64 - 1, where the count stays.
-pub(crate) fn state_size(state: &State) -> u64
+pub fn state_size(state: &State) -> u64
     ensures { result ≡ min (context_nodes (context_of state.now)) (2 ^ 64 - 1) }
 {
     hyps_size(state.hyps.as_slice()).saturating_add(atoms_size(&state.atoms))

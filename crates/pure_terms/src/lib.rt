@@ -14,8 +14,6 @@ mod queue;
 mod sorts;
 mod subst;
 mod sums;
-#[cfg(test)]
-mod tests;
 mod trees;
 mod zeros;
 

@@ -18,5 +18,3 @@ pub mod scope;
 pub mod sorts;
 pub mod steps;
 pub mod terms;
-#[cfg(test)]
-mod tests;

@@ -1,12 +1,8 @@
-pub mod Naming
-pub mod Laying
-pub mod Cells
-pub mod Evaluating
-pub mod Stepping
-pub mod Walking
-pub mod Going
 pub mod OrderRuns
+pub mod OptionWords
+pub mod Numerals
 pub mod Answering
 pub mod Lowest
 pub mod Unique
 pub mod Headline
+pub mod Going

@@ -6,7 +6,7 @@ use Rattle.tht_tree.specs.declared.status.Status.TheVariants.{Done, TooLong, Tex
 use Rattle.tht_tree.specs.declared.command.Command.{Command}
 use Rattle.tht_tree.specs.declared.command.Command.TheVariants.{Read}
 use Rattle.tht_tree.specs.declared.command.Reader.{Reader}
-use Rattle.tht_tree.specs.declared.command.Reader.TheVariants.{Run, Print}
+use Rattle.tht_tree.specs.declared.command.Reader.TheVariants.{Check, Run, Print}
 use Rattle.tht_tree.specs.declared.plain.Spot.{Spot}
 use Rattle.tht_tree.specs.declared.token.TokenKind.{TokenKind}
 use Rattle.tht_tree.specs.Tokens as token
@@ -19,34 +19,48 @@ use Rattle.tht_tree.specs.Layout.{layout}
 use Rattle.tht_grammar.proofs.TextFaults.{one_split_fault, one_spelling_fault, not_both}
 use Rattle.tht_front.specs.Refusals.{lex_fault, text_fault}
 use Rattle.tht_front.proofs.Answering.{spelled_in, none_at_fault, none_refused, none_out_of_order}
+use Rattle.tht_logic.specs.Procedures.{bodies_in}
 use Rattle.tht_logic.specs.Runs.{start_of}
-use Rattle.tht_logic.specs.CommandLine.{budget, status_of, input_limit, Reports, Takes, Accepts, IsFirstFault, SaysFault, RefusesText, RefusesNames, FileAnswers, Answers}
+use Rattle.tht_logic.specs.CommandLine.{status_of, input_limit, Reports, Takes, Accepts, IsFirstFault, SaysFault, SaysLater, SaysRefusal, SaysRule, RefusesText, RefusesNames, FileAnswers, Answers}
 use Rattle.tht_tree.specs.declared.walk.WalkRefusal.{WalkRefusal}
 use Rattle.tht_tree.specs.declared.rule.RuleRefusal.{RuleRefusal}
 use Rattle.tht_logic.specs.Built.{is_built}
 use Rattle.tht_tree.specs.Walk.Files.{first_refusal}
 use Rattle.tht_tree.specs.Lines.{walk_line, rule_line}
-use Rattle.tht_logic.specs.Rules.Files.{IsAccepted, first_rule_refusal}
+use Rattle.tht_logic.specs.Rules.Files.{IsAccepted}
 use Rattle.tht_front.proofs.Lowest.{one_run, some_same}
 
 -- ---- a file has one report
 
-one_report : (file : Source1) (s t : Status) (o p : List ℕ) → Reports file s o → Reports file t p → (s ≡ t) × (o ≡ p)
-one_report file s t o p a b =
-    let same = one_run a.order b.order (start_of file budget) a.end b.end a.ends b.ends in
+one_report : (file : Source1) (budget : ℕ) (s t : Status) (o p : List ℕ) → Reports file budget s o → Reports file budget t p → (s ≡ t) × (o ≡ p)
+one_report file budget s t o p a b =
+    let same = one_run (bodies_in file) a.order b.order (start_of file budget) a.end b.end a.ends b.ends in
     let orders : a.order ≡ b.order = same.0 in
     let ends : a.end ≡ b.end = same.1 in
     let runs : Some a.last ≡ Some b.last = sym a.runs ∙ rw orders b.runs in
     let last : a.last ≡ b.last = some_same a.last b.last runs in
     (a.status_is ∙ ap status_of ends ∙ sym b.status_is, a.output_is ∙ rw (ends, last, orders) (sym b.output_is))
 
--- the answer of `run`: a refusal by a rule, or a report
-abbrev Said : Source1 → Status → List ℕ → Type 0
-Said file s o = ((s ≡ Rule) × ((r : RuleRefusal) × (first_rule_refusal file ≡ Some r) × (o ≡ rule_line r))) ⊎ (IsAccepted file × Reports file s o)
+-- the answer of a command that checks: a refusal by a rule, or what it says of an accepted file
+abbrev Said : Source1 → (Status → List ℕ → Type 0) → Status → List ℕ → Type 0
+Said file P s o = ((s ≡ Rule) × SaysRule file o) ⊎ (IsAccepted file × P s o)
 
-said : (file : Source1) (s : Status) (o : List ℕ) → Accepts Run file s o → Said file s o
-said file Rule o a = inl (refl, a)
-said file s o a = inr a
+-- the answer of `run`: its report
+said : (file : Source1) (budget : ℕ) (s : Status) (o : List ℕ) → Accepts (Run budget) file s o → Said file (Reports file budget) s o
+said file budget Rule o a = inl (refl, a)
+said file budget s o a = inr a
+
+-- the answer of `check`: that it is accepted
+abbrev SaysAccepted : Status → List ℕ → Type 0
+SaysAccepted s o = (s ≡ Done) × (o ≡ codes "accepted\n")
+
+checked : (file : Source1) (s : Status) (o : List ℕ) → Accepts Check file s o → Said file SaysAccepted s o
+checked file Rule o a = inl (refl, a)
+checked file Done o a = inr (a.0, (refl, a.1))
+checked file s o a = absurd a
+
+one_accepted_line : (s t : Status) (o p : List ℕ) → SaysAccepted s o → SaysAccepted t p → (s ≡ t) × (o ≡ p)
+one_accepted_line s t o p a b = (a.0 ∙ sym b.0, a.1 ∙ sym b.1)
 
 -- the answer of `print`: the layout
 printed : (file : Source1) (s : Status) (o : List ℕ) → Accepts Print file s o → (s ≡ Done) × (o ≡ layout file)
@@ -56,14 +70,16 @@ printed file s o a = absurd a
 one_rule : (r q : RuleRefusal) → Some r ≡ Some q → r ≡ q
 one_rule r q e = cc
 
-one_said : (file : Source1) (s t : Status) (o p : List ℕ) → Said file s o → Said file t p → (s ≡ t) × (o ≡ p)
-one_said file s t o p (inl a) (inl b) = (a.0 ∙ sym b.0, a.1.2 ∙ ap rule_line (one_rule a.1.0 b.1.0 (sym a.1.1 ∙ b.1.1)) ∙ sym b.1.2)
-one_said file s t o p (inl a) (inr b) = let x = a.1.1 in let y = b.0.rules in cc
-one_said file s t o p (inr a) (inl b) = let x = a.0.rules in let y = b.1.1 in cc
-one_said file s t o p (inr a) (inr b) = one_report file s t o p a.1 b.1
+module _ (file : Source1) (P : Status → List ℕ → Type 0) (one : (s t : Status) (o p : List ℕ) → P s o → P t p → (s ≡ t) × (o ≡ p)) where
+  one_said : (s t : Status) (o p : List ℕ) → Said file P s o → Said file P t p → (s ≡ t) × (o ≡ p)
+  one_said s t o p (inl a) (inl b) = (a.0 ∙ sym b.0, a.1.2 ∙ ap rule_line (one_rule a.1.0 b.1.0 (sym a.1.1 ∙ b.1.1)) ∙ sym b.1.2)
+  one_said s t o p (inl a) (inr b) = let x = a.1.1 in let y = b.0.rules in cc
+  one_said s t o p (inr a) (inl b) = let x = a.0.rules in let y = b.1.1 in cc
+  one_said s t o p (inr a) (inr b) = one s t o p a.1 b.1
 
 one_accepted : (reader : Reader) (file : Source1) (s t : Status) (o p : List ℕ) → Accepts reader file s o → Accepts reader file t p → (s ≡ t) × (o ≡ p)
-one_accepted Run file s t o p a b = one_said file s t o p (said file s o a) (said file t p b)
+one_accepted Check file s t o p a b = one_said file SaysAccepted one_accepted_line s t o p (checked file s o a) (checked file t p b)
+one_accepted (Run budget) file s t o p a b = one_said file (Reports file budget) (one_report file budget) s t o p (said file budget s o a) (said file budget t p b)
 one_accepted Print file s t o p a b = let x = printed file s o a in let y = printed file t p b in (x.0 ∙ sym y.0, x.1 ∙ sym y.1)
 
 -- ---- an input has one first fault
@@ -93,11 +109,16 @@ one_line input o p a b =
     let same = one_first input a.fault b.fault a.spot b.spot (faulty input a.fault a.spot a.first) (faulty input b.fault b.spot b.first) in
     a.line ∙ rw (same.0, same.1) (sym b.line)
 
+-- a fault, or a form that is not built
+one_text : (input o p : List ℕ) → SaysFault input o ⊎ SaysLater input o → SaysFault input p ⊎ SaysLater input p → o ≡ p
+one_text input o p (inl a) (inl b) = one_line input o p a b
+one_text input o p (inl a) (inr b) = absurd (none_at_fault input o a Print b.file b.spelled)
+one_text input o p (inr a) (inl b) = absurd (none_at_fault input p b Print a.file a.spelled)
+one_text input o p (inr a) (inr b) = a.line ∙ sym b.line
+
 one_refusal : (reader : Reader) (input o p : List ℕ) → RefusesText reader input o → RefusesText reader input p → o ≡ p
-one_refusal Run input o p (inl a) (inl b) = one_line input o p a b
-one_refusal Run input o p (inl a) (inr b) = absurd (none_at_fault input o a Print b.file b.spelled)
-one_refusal Run input o p (inr a) (inl b) = absurd (none_at_fault input p b Print a.file a.spelled)
-one_refusal Run input o p (inr a) (inr b) = a.line ∙ sym b.line
+one_refusal Check input o p a b = one_text input o p a b
+one_refusal (Run budget) input o p a b = one_text input o p a b
 one_refusal Print input o p a b = one_line input o p a b
 
 -- ---- an input has one answer
@@ -139,16 +160,24 @@ module _ (one_file : (a b : Source1) (bytes : List ℕ) → IsSpelled a bytes �
   one_walk : (r q : WalkRefusal) → Some r ≡ Some q → r ≡ q
   one_walk r q e = cc
 
-  one_names : (reader : Reader) (input o p : List ℕ) → RefusesNames reader input o → RefusesNames reader input p → o ≡ p
-  one_names Run input o p a b =
+  one_walk_line : (input o p : List ℕ) → SaysRefusal input o → SaysRefusal input p → o ≡ p
+  one_walk_line input o p a b =
       let same : a.file ≡ b.file = one_file a.file b.file input a.spelled b.spelled in
       a.line ∙ ap walk_line (one_walk a.refusal b.refusal (sym a.first ∙ ap first_refusal same ∙ b.first)) ∙ sym b.line
+
+  one_names : (reader : Reader) (input o p : List ℕ) → RefusesNames reader input o → RefusesNames reader input p → o ≡ p
+  one_names Check input o p a b = one_walk_line input o p a b
+  one_names (Run budget) input o p a b = one_walk_line input o p a b
   one_names Print input o p a b = absurd a
 
   -- what is refused as a text has no names to refuse
+  apart_line : (input o p : List ℕ) → SaysFault input o ⊎ SaysLater input o → SaysRefusal input p → ⊥
+  apart_line input o p (inl a) b = none_at_fault input o a Print b.file b.spelled
+  apart_line input o p (inr a) b = let same = one_file a.file b.file input a.spelled b.spelled in let later = a.later in let now = b.built in cc (ap is_built same)
+
   apart_text : (reader : Reader) (input o p : List ℕ) → RefusesText reader input o → RefusesNames reader input p → ⊥
-  apart_text Run input o p (inl a) b = none_at_fault input o a Print b.file b.spelled
-  apart_text Run input o p (inr a) b = let same = one_file a.file b.file input a.spelled b.spelled in let later = a.later in let now = b.built in cc (ap is_built same)
+  apart_text Check input o p a b = apart_line input o p a b
+  apart_text (Run budget) input o p a b = apart_line input o p a b
   apart_text Print input o p a b = absurd b
 
   one_answered : (reader : Reader) (input : List ℕ) (s t : Status) (o p : List ℕ) → Answered reader input s o → Answered reader input t p → (s ≡ t) × (o ≡ p)

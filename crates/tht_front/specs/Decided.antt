@@ -1,7 +1,9 @@
--- The statuses that an answer may have.
+-- The statuses that an answer may have, and the commands that have them.
 use Rattle.std.specs.Prelude.{Bool, true, false}
 use Rattle.tht_tree.specs.declared.status.Status.{Status}
-use Rattle.tht_tree.specs.declared.status.Status.TheVariants.{ReadFault, WriteFault, TooLong, Text, NamesOrSorts, Memory}
+use Rattle.tht_tree.specs.declared.status.Status.TheVariants.{ReadFault, WriteFault, TooLong, Text, NamesOrSorts, Spent, Big, Memory}
+use Rattle.tht_tree.specs.declared.command.Reader.{Reader}
+use Rattle.tht_tree.specs.declared.command.Reader.TheVariants.{Run}
 
 -- whether words and input alone decide the status
 abbrev pub is_decided : Status → Bool
@@ -16,3 +18,14 @@ is_past_text TooLong = false
 is_past_text Text = false
 is_past_text NamesOrSorts = false
 is_past_text status = true
+
+-- whether the status is that of a run that was cut short
+abbrev pub is_cut_short : Status → Bool
+is_cut_short Spent = true
+is_cut_short Big = true
+is_cut_short status = false
+
+-- whether the command runs files
+abbrev pub is_run : Reader → Bool
+is_run (Run budget) = true
+is_run reader = false

@@ -1,6 +1,4 @@
-pub mod Running
-pub mod Operations
-pub mod Carrying
 pub mod Outcomes
 pub mod Decided
+pub mod Asking
 pub mod Refusals

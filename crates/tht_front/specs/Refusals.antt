@@ -5,7 +5,7 @@ use Rattle.tht_tree.specs.declared.file.Source1.{Source1}
 use Rattle.tht_tree.specs.declared.status.Status.{Status}
 use Rattle.tht_tree.specs.declared.status.Status.TheVariants.{Done, Text, NamesOrSorts}
 use Rattle.tht_tree.specs.declared.command.Reader.{Reader}
-use Rattle.tht_tree.specs.declared.command.Reader.TheVariants.{Run, Print}
+use Rattle.tht_tree.specs.declared.command.Reader.TheVariants.{Print}
 use Rattle.tht_tree.specs.declared.text_fault.TextFault.{TextFault}
 use Rattle.tht_tree.specs.declared.text_fault.TextFault.TheVariants as f
 use Rattle.tht_tree.specs.Tokens as token
@@ -53,10 +53,14 @@ IsLineAt (Some (fault, spot)) output = output ≡ fault_text fault spot
 abbrev pub IsLineOf : ParseEnd → List ℕ → Type 0
 IsLineOf e output = IsLineAt (fault_in e) output
 
--- what a command answers to a file that the input spells: that it is not built yet, that its names or sorts are not in order, or as
--- it does to a file that it takes
+-- what a command that checks answers to a file: that it is not built yet, that its names or sorts are not in order, or as it does to a file that
+-- it takes
+abbrev pub Judges : Reader → Source1 → Status → List ℕ → Type 0
+Judges reader file Text output = (is_built file ≡ false) × (output ≡ codes "text later\n")
+Judges reader file NamesOrSorts output = (refusal : WalkRefusal) × (is_built file ≡ true) × (first_refusal file ≡ Some refusal) × (output ≡ walk_line refusal)
+Judges reader file status output = (is_built file ≡ true) × WellSorted file × IsTrue (is_past_text status) × Accepts reader file status output
+
+-- what a command answers to a file that the input spells
 abbrev pub AnswersTo : Reader → Source1 → Status → List ℕ → Type 0
-AnswersTo Run file Text output = (is_built file ≡ false) × (output ≡ codes "text later\n")
-AnswersTo Run file NamesOrSorts output = (refusal : WalkRefusal) × (is_built file ≡ true) × (first_refusal file ≡ Some refusal) × (output ≡ walk_line refusal)
-AnswersTo Run file status output = (is_built file ≡ true) × WellSorted file × IsTrue (is_past_text status) × Accepts Run file status output
 AnswersTo Print file status output = (status ≡ Done) × (output ≡ layout file)
+AnswersTo reader file status output = Judges reader file status output

@@ -1,8 +1,9 @@
 // The top call.
 ghost use Rattle.std.specs.Prelude.{◌≡◌, ◌≢◌, ◌<◌, ◌⊎◌, length, List, ℕ, map, string_bytes, IsTrue, None, Some, IfSome, IfOk, IsErrOf};
 ghost use Rattle.std.specs.Io.KnownBytes.{Keeps};
-ghost use Rattle.tht_logic.specs.CommandLine.{asked, Answers, EndsSo, FileAnswers, HasAnswered, HasInput, IsRefused, IsOutOfOrder, RunHasEnded, TakesNone, ends_a_run, input_limit};
+ghost use Rattle.tht_logic.specs.CommandLine.{asked, Answers, AsksRunTo, FileAnswers, HasAnswered, HasInput, IsRefused, IsOutOfOrder, RunHasEnded, TakesNone, ends_a_run, input_limit};
 ghost use Rattle.tht_ports.specs.Causes.{Rose};
+ghost use Rattle.tht_front.specs.Decided.{is_cut_short, is_run};
 
 use crate::answer::{answer_to, line};
 use crate::decided::Answer;
@@ -31,8 +32,8 @@ pub fn tht_alone<S: Source, T: Sink>(
         HasAnswered (asked (map string_bytes words.now)) input (T.written sink.old) (T.written sink.new) result }
 
     // The headline: each run of an accepted source is safe, and the report is of such a run.
-    ensures accepted_runs_are_safe { asked (map string_bytes words.now) ≡ Some (Command.Read Reader.Run) → IsTrue (ends_a_run result) →
-        IfSome (S.left source.old) (λ input. RunHasEnded input (T.written sink.old) (T.written sink.new) result) }
+    ensures accepted_runs_are_safe { (budget : ℕ) → asked (map string_bytes words.now) ≡ Some (Command.Read (Reader.Run budget)) → IsTrue (ends_a_run result) →
+        IfSome (S.left source.old) (λ input. RunHasEnded input budget (T.written sink.old) (T.written sink.new) result) }
 
     // Each status comes only by its cause.
     ensures words { result ≡ Status.Words → asked (map string_bytes words.now) ≡ None }
@@ -42,8 +43,8 @@ pub fn tht_alone<S: Source, T: Sink>(
         IfSome (S.left source.old) (λ input. TakesNone input reader) }
     ensures names { result ≡ Status.NamesOrSorts → IfSome (S.left source.old) IsOutOfOrder }
     ensures rule { result ≡ Status.Rule → IfSome (S.left source.old) IsRefused }
-    ensures spent { result ≡ Status.Spent → IfSome (S.left source.old) (EndsSo End.Spent) }
-    ensures big { result ≡ Status.Big → IfSome (S.left source.old) (EndsSo End.Big) }
+    ensures spent { result ≡ Status.Spent → AsksRunTo End.Spent (asked (map string_bytes words.now)) (S.left source.old) }
+    ensures big { result ≡ Status.Big → AsksRunTo End.Big (asked (map string_bytes words.now)) (S.left source.old) }
     ensures nothing { (result ≡ Status.Memory) ⊎ (result ≡ Status.ReadFault) → Keeps (T.written sink.old) (T.written sink.new) }
 
     // A fault comes only from the source and the sink.
@@ -85,8 +86,8 @@ fn answer_from<S: Source>(
         answer.status ≡ Status.Text → IfSome (S.left source.old) (λ input. TakesNone input reader)) }
     ensures names { IfOk result (λ answer. answer.status ≡ Status.NamesOrSorts → IfSome (S.left source.old) IsOutOfOrder) }
     ensures rule { IfOk result (λ answer. answer.status ≡ Status.Rule → IfSome (S.left source.old) IsRefused) }
-    ensures spent { IfOk result (λ answer. answer.status ≡ Status.Spent → IfSome (S.left source.old) (EndsSo End.Spent)) }
-    ensures big { IfOk result (λ answer. answer.status ≡ Status.Big → IfSome (S.left source.old) (EndsSo End.Big)) }
+    ensures spent { IfOk result (λ answer. answer.status ≡ Status.Spent → AsksRunTo End.Spent (asked (map string_bytes words.now)) (S.left source.old)) }
+    ensures big { IfOk result (λ answer. answer.status ≡ Status.Big → AsksRunTo End.Big (asked (map string_bytes words.now)) (S.left source.old)) }
     ensures fault { IsErrOf result NoAnswer.ReadFault → Rose (S.faults source.old) (S.faults source.new) }
     ensures as_before { ¬ IsErrOf result NoAnswer.ReadFault → S.faults source.new ≡ S.faults source.old }
 {
@@ -104,6 +105,7 @@ fn answer_from_file<S: Source>(
 ) -> Result<Answer, NoAnswer>
     ensures answer { IfOk result (λ answer. IfSome (S.left source.old) (λ input.
         FileAnswers reader input answer.status answer.output.items)) }
+    ensures run { IfOk result (λ answer. IsTrue (is_cut_short answer.status) → IsTrue (is_run reader)) }
     ensures no_words { IfOk result (λ answer. answer.status ≢ Status.Words) }
     ensures too_long { IfOk result (λ answer. answer.status ≡ Status.TooLong →
         IfSome (S.left source.old) (λ input. input_limit < length input)) }

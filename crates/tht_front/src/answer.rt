@@ -1,13 +1,12 @@
 // What is answered to the words and the input.
 ghost use Rattle.std.specs.Prelude.{◌≡◌, ◌≤◌, length, true, IfOk, IsTrue};
-ghost use Rattle.tht_logic.specs.CommandLine.{Accepts, FileAnswers, budget, status_of as status_said};
+ghost use Rattle.tht_logic.specs.CommandLine.{Accepts, FileAnswers, status_of as status_said};
 ghost use Rattle.tht_logic.specs.Built.{is_built as built};
-ghost use Rattle.tht_tree.specs.Walk.Files.{WellSorted};
-ghost use Rattle.tht_logic.specs.Rules.Files.{IsAccepted, declared_in, main_post};
+ghost use Rattle.tht_logic.specs.Rules.Files.{IsAccepted};
 ghost use Rattle.tht_tree.specs.Layout.{layout};
-ghost use Rattle.heap_rules.specs.Declarations.{declared_by};
-ghost use Rattle.tht_front.specs.Refusals.{fault_in, AnswersTo, IsLineOf};
-ghost use Rattle.tht_front.specs.Decided.{is_decided, is_past_text};
+ghost use Rattle.tht_front.specs.Asking.{reader_of};
+ghost use Rattle.tht_front.specs.Refusals.{fault_in, AnswersTo, Judges, IsLineOf};
+ghost use Rattle.tht_front.specs.Decided.{is_cut_short, is_decided, is_past_text, is_run};
 ghost use Rattle.tht_front.specs.Outcomes.{RunEnds};
 
 use crate::course::Course;
@@ -15,8 +14,9 @@ use crate::decided::Answer;
 use crate::lines::{rule_line, walk_line};
 use crate::report::{Ran, report};
 use crate::run::run;
-use hoare_rules::{Predicates, Refusal, body_holds, is_built};
-use name_walk::files::{WalkEnd, well_sorted};
+use crate::task::Task;
+use file_checker::{CheckEnd, check};
+use hoare_rules::is_built;
 use std::alloc::{AllocError, Global};
 use tht_parse::{ParseEnd, parse};
 use tht_print::print;
@@ -24,12 +24,8 @@ use tht_tree::command::Reader;
 use tht_tree::file::Source1;
 use tht_tree::plain::Spot;
 use tht_tree::run::End;
-use tht_tree::state::{Post, State};
 use tht_tree::status::Status;
 use tht_tree::text_fault::TextFault;
-
-// The budget of steps of a run.
-const BUDGET: u32 = 100_000;
 
 /// A status with a text.
 pub fn line(alloc: Global, status: Status, text: &[u8]) -> Result<Answer, AllocError>
@@ -44,10 +40,11 @@ pub fn line(alloc: Global, status: Status, text: &[u8]) -> Result<Answer, AllocE
 /// The answer of a command to its whole input.
 pub fn answer_to(alloc: Global, reader: Reader, input: &[u8]) -> Result<Answer, AllocError>
     requires { length input.now ≤ 1048576 }
-    ensures { IfOk result (λ answer. FileAnswers reader input.now answer.status answer.output.items) }
+    ensures answer { IfOk result (λ answer. FileAnswers reader input.now answer.status answer.output.items) }
+    ensures run { IfOk result (λ answer. IsTrue (is_cut_short answer.status) → IsTrue (is_run reader)) }
 {
     match parse(alloc, input) {
-        Ok(file) => answer_to_file(alloc, reader, &file),
+        Ok(file) => answer_to_file(alloc, reader, file),
         Err(end) => refused(alloc, end),
     }
 }
@@ -85,13 +82,16 @@ fn fault_of(end: ParseEnd) -> Option<(TextFault, Spot)>
     }
 }
 
+// ---- files
+
 // The answer of a command to a file that the input spells.
-fn answer_to_file(alloc: Global, reader: Reader, file: &Source1) -> Result<Answer, AllocError>
-    ensures { IfOk result (λ answer. AnswersTo reader file.now answer.status answer.output.items) }
+fn answer_to_file(alloc: Global, reader: Reader, file: Source1) -> Result<Answer, AllocError>
+    ensures { IfOk result (λ answer. AnswersTo reader file answer.status answer.output.items) }
 {
     match reader {
-        Reader::Print => printed(alloc, file),
-        Reader::Run => later(alloc, file),
+        Reader::Check => judged(alloc, Task::Say, file),
+        Reader::Run(budget) => judged(alloc, Task::Run(budget), file),
+        Reader::Print => printed(alloc, &file),
     }
 }
 
@@ -107,83 +107,67 @@ fn printed(alloc: Global, file: &Source1) -> Result<Answer, AllocError>
     })
 }
 
-// The answer of `run` to a file that may not be built yet.
-fn later(alloc: Global, file: &Source1) -> Result<Answer, AllocError>
-    ensures { IfOk result (λ answer. AnswersTo Reader.Run file.now answer.status answer.output.items) }
+// The answer of a command that checks to a file that may not be built yet.
+fn judged(alloc: Global, task: Task, file: Source1) -> Result<Answer, AllocError>
+    ensures { IfOk result (λ answer. Judges (reader_of task) file answer.status answer.output.items) }
 {
-    if is_built(file) {
-        sorted(alloc, file)
+    if is_built(&file) {
+        checked(alloc, task, file)
     } else {
         line(alloc, Status::Text, b"text later\n")
     }
 }
 
-// The answer of `run` to a file whose names and sorts may not be in order.
-fn sorted(alloc: Global, file: &Source1) -> Result<Answer, AllocError>
-    requires { built file.now ≡ true }
-    ensures { IfOk result (λ answer. AnswersTo Reader.Run file.now answer.status answer.output.items) }
+// The answer of a command that checks.
+fn checked(alloc: Global, task: Task, file: Source1) -> Result<Answer, AllocError>
+    requires { built file ≡ true }
+    ensures { IfOk result (λ answer. Judges (reader_of task) file answer.status answer.output.items) }
 {
-    match well_sorted(alloc, file) {
-        Ok(()) => checked(alloc, file),
-        Err(WalkEnd::Refused(refusal)) => walk_line(alloc, refusal),
-        Err(WalkEnd::Memory) => Err(AllocError),
+    match check(alloc, file) {
+        Ok(vetted) => accepted(alloc, task, vetted.file()),
+        Err(CheckEnd::Walk(refusal)) => walk_line(alloc, refusal),
+        Err(CheckEnd::Rule(refusal)) => rule_line(alloc, refusal),
+        Err(CheckEnd::Memory) => Err(AllocError),
     }
 }
 
-// The answer of `run`.
-fn checked(alloc: Global, file: &Source1) -> Result<Answer, AllocError>
-    requires built { built file.now ≡ true }
-    requires sorted { WellSorted file.now }
-    ensures output { IfOk result (λ answer. Accepts Reader.Run file.now answer.status answer.output.items) }
+// The answer of a command that checks to a file that is accepted.
+fn accepted(alloc: Global, task: Task, file: &Source1) -> Result<Answer, AllocError>
+    requires { IsAccepted file.now }
+    ensures output { IfOk result (λ answer. Accepts (reader_of task) file.now answer.status answer.output.items) }
     ensures status { IfOk result (λ answer. IsTrue (is_past_text answer.status)) }
 {
-    let post = post_of(alloc, file)?;
-    let predicates = predicates_of(alloc, file)?;
-    let state = State::new(alloc);
-    match body_holds(alloc, &predicates, state, file.main.body.get(), &post) {
-        Ok(()) => accepted(alloc, file),
-        Err(Refusal::Rule(refusal)) => rule_line(alloc, refusal),
-        Err(Refusal::Memory) => Err(AllocError),
+    match task {
+        Task::Say => line(alloc, Status::Done, b"accepted\n"),
+        Task::Run(budget) => ran(alloc, file, budget),
     }
 }
 
-// Main's postcondition.
-fn post_of(alloc: Global, file: &Source1) -> Result<Post, AllocError>
-    ensures { IfOk result (λ post. post ≡ main_post file.now) }
-{
-    let result = file.main.result.copy()?;
-    let assn = file.main.post.copy(alloc).map_err(|_| AllocError)?;
-    Ok(Post {
-        result,
-        sort: file.main.sort,
-        assn,
-    })
-}
-
-// The predicates of a file by their names.
-fn predicates_of(alloc: Global, file: &Source1) -> Result<Predicates<'_>, AllocError>
-    ensures { IfOk result (λ predicates. declared_by predicates ≡ declared_in file.now) }
-{
-    Predicates::new(alloc, file.decls.as_slice()).map_err(|_| AllocError)
-}
+// ---- runs
 
 // The answer of `run` to a file that is accepted.
-fn accepted(alloc: Global, file: &Source1) -> Result<Answer, AllocError>
+fn ran(alloc: Global, file: &Source1, budget: u32) -> Result<Answer, AllocError>
     requires { IsAccepted file.now }
-    ensures output { IfOk result (λ answer. Accepts Reader.Run file.now answer.status answer.output.items) }
+    ensures output { IfOk result (λ answer. Accepts (Reader.Run budget) file.now answer.status answer.output.items) }
     ensures status { IfOk result (λ answer. IsTrue (is_past_text answer.status)) }
 {
-    match run(alloc, file, BUDGET)? {
-        Course::Ended { end, steps } => reported(alloc, file, end, steps),
+    match run(alloc, file, budget)? {
+        Course::Ended { end, steps } => reported(alloc, file, budget, end, steps),
         Course::Faulted => unreachable!(),
     }
 }
 
-// The answer to a run that has ended so, after this many steps.
-fn reported(alloc: Global, file: &Source1, end: End, steps: u32) -> Result<Answer, AllocError>
+// The answer to a run within the budget that has ended so, after this many steps.
+fn reported(
+    alloc: Global,
+    file: &Source1,
+    budget: u32,
+    end: End,
+    steps: u32,
+) -> Result<Answer, AllocError>
     requires accepted { IsAccepted file.now }
     requires ends { RunEnds file.now budget end steps }
-    ensures output { IfOk result (λ answer. Accepts Reader.Run file.now answer.status answer.output.items) }
+    ensures output { IfOk result (λ answer. Accepts (Reader.Run budget) file.now answer.status answer.output.items) }
     ensures status { IfOk result (λ answer. IsTrue (is_past_text answer.status)) }
 {
     let ran = Ran {

@@ -9,12 +9,8 @@ mod laws;
 mod lines;
 mod report;
 mod run;
-mod runner;
-mod values;
+mod task;
 mod words;
 
 pub use alone::tht_alone;
 pub use laws::one_answer;
-
-#[cfg(test)]
-mod tests;

@@ -16,6 +16,3 @@ pub use end::LexEnd;
 pub use laws::one_split;
 pub use lexer::{lex, spot_after};
 pub use token::Token;
-
-#[cfg(test)]
-mod tests;

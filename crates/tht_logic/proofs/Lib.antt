@@ -1,4 +1,6 @@
 pub mod Said
+pub mod Levels
+pub mod RuleLevels
 pub mod Numbers
 pub mod HeapLaws
 pub mod Parts
@@ -6,5 +8,11 @@ pub mod Local
 pub mod Moves
 pub mod Acts
 pub mod Outside
+pub mod Sequence
 pub mod Fewer
 pub mod Runs
+pub mod NamesInTerms
+pub mod SameTrms
+pub mod SameCodes
+pub mod Closing
+pub mod Leaves

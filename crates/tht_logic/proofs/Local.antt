@@ -6,7 +6,7 @@ use Rattle.tht_tree.specs.declared.plain.Place.TheVariants.{Cell}
 use Rattle.tht_tree.specs.declared.plain.Value.{Value}
 use Rattle.tht_tree.specs.Values.{has_sort}
 use Rattle.tht_tree.specs.Heaps.{Held, shared, own, held_value, with_value, with_at}
-use Rattle.tht_logic.specs.Machine.{Prog, Cmd, TermBig, Read, Write, Alloc, Free, Mem, retag, put, laid, raised, alloc_cells, Said, Next, Wrong, touched, if_may, at, plain_step, is_in}
+use Rattle.tht_logic.specs.Machine.{Bodies, Prog, Cmd, TermBig, Read, Write, Alloc, Free, Call, Mem, retag, put, laid, raised, alloc_cells, Said, Next, Wrong, touched, if_may, at, plain_step, is_in}
 use Rattle.tht_logic.specs.Soundness.{IsMade, Leads}
 use Rattle.tht_tree.proofs.Cells.{place_tells}
 
@@ -121,18 +121,19 @@ alloc_local b m vs = record {
   tags = λ p a v e. laid_tags b vs (m.made b) m p a v e;
 }
 
-pub plain_local : (above : List ℕ) (b : ℕ) (inside : Bool) (m : Mem) (c : Cmd) (rest : Value → Prog) → Leads (plain_step above b inside m c rest) (λ r. Local b m r.0)
-plain_local above b inside m TermBig rest = tt
-plain_local above b inside m (Read s p) rest =
+pub plain_local : (F : Bodies) (above : List ℕ) (b : ℕ) (inside : Bool) (m : Mem) (c : Cmd) (rest : Value → Prog) → Leads (plain_step F above b inside m c rest) (λ r. Local b m r.0)
+plain_local F above b inside m TermBig rest = tt
+plain_local F above b inside m (Read s p) rest =
     at_leads p (touched above b inside (m.heap p)) _ _
     (λ c e. let t = touched_is above b inside (m.heap p) c e in
     sort_leads (has_sort s (held_value c)) _ _ (changed_local b m (retag m p (Some c)) p t.0.0 (Some c) t.0.1 t.1 refl refl refl))
-plain_local above b inside m (Write p v) rest =
+plain_local F above b inside m (Write p v) rest =
     at_leads p (touched above b inside (m.heap p)) _ _
     (λ c e. let t = touched_is above b inside (m.heap p) c e in
     changed_local b m (put m p (Some (with_value c v))) p t.0.0 (Some (with_value c v)) t.0.1 (other_value b c v t.1) refl refl refl)
-plain_local above b inside m (Alloc vs) rest = alloc_local b m vs
-plain_local above b inside m (Free p) rest =
+plain_local F above b inside m (Alloc vs) rest = alloc_local b m vs
+plain_local F above b inside m (Free p) rest =
     at_leads p (touched above b inside (m.heap p)) _ _
     (λ c e. let t = touched_is above b inside (m.heap p) c e in
     changed_local b m (retag m p None) p t.0.0 None t.0.1 (none_of b) refl refl refl)
+plain_local F above b inside m (Call f vs) rest = record { next = refl; made = λ d. d; tags = λ p a v e. inr (v, e) }

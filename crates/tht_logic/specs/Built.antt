@@ -1,5 +1,6 @@
 -- Which files `run` takes so far: those of which every form is built. All terms are; all proofs but `lemma`; all assertions but shared
--- cells; all gives; all steps but `use`; of statements those on private cells; of ends `ret`; of declarations private predicates by one case.
+-- cells; all gives; all steps but `use`; of statements those on private cells, calls and `do`; all ends; of declarations private predicates by one
+-- case, and procs.
 use Rattle.std.specs.Prelude.{Bool, true, false, ◌&&◌, List, [], ◌∷◌}
 use Rattle.std.specs.List.{list_all}
 use Rattle.tht_tree.specs.declared.assn.Assn.{Assn, fold-Assn}
@@ -10,16 +11,12 @@ use Rattle.tht_tree.specs.declared.give.Give.{Give, fold-Give}
 use Rattle.tht_tree.specs.declared.give.GiveKind.TheOpen as g
 use Rattle.tht_tree.specs.declared.step.StepKind.{StepKind}
 use Rattle.tht_tree.specs.declared.step.StepKind.TheVariants as t
-use Rattle.tht_tree.specs.declared.body.Body.{Body}
-use Rattle.tht_tree.specs.declared.body.StmtKind.{StmtKind}
-use Rattle.tht_tree.specs.declared.body.StmtKind.TheVariants as s
-use Rattle.tht_tree.specs.declared.body.EndKind.{EndKind}
-use Rattle.tht_tree.specs.declared.body.EndKind.TheVariants as e
+use Rattle.tht_tree.specs.declared.body.Body.{Body, fold-Body}
+use Rattle.tht_tree.specs.declared.body.EndKind.TheOpen as b
 use Rattle.tht_tree.specs.declared.decl.Access.TheVariants.{Private}
 use Rattle.tht_tree.specs.declared.decl.DeclKind.{DeclKind}
 use Rattle.tht_tree.specs.declared.decl.DeclKind.TheVariants as d
 use Rattle.tht_tree.specs.declared.file.Source1.{Source1}
-use Rattle.tht_logic.specs.Programs.{stmts_of, end_of}
 
 abbrev pub proof_at : p.ProofKind-F Bool Bool Bool → Bool
 proof_at (p.Recast t q) = q
@@ -87,24 +84,41 @@ step (t.Rewrite i k u q) = proof q
 step (t.Use l ts x) = false
 step _ = true
 
-abbrev pub stmt : StmtKind → Bool
-stmt (s.Read x r u i h q) = proof q
-stmt (s.Write u w i q) = proof q
-stmt (s.Alloc x ts) = true
-stmt (s.Free u i q) = proof q
-stmt (s.Proof x) = step x.kind
-stmt _ = false
+-- whether each form in a part of a body is built
+abbrev pub stmt_at : b.StmtKind-F Bool Bool Bool Bool Bool → Bool
+stmt_at (b.Read x r u i h q) = proof q
+stmt_at (b.Write u w i q) = proof q
+stmt_at (b.Alloc x ts) = true
+stmt_at (b.Free u i q) = proof q
+stmt_at (b.Call x f us ws g) = give g
+stmt_at (b.Do x r ns inner p) = inner && assn p
+stmt_at (b.Proof x) = step x.kind
+stmt_at _ = false
 
-abbrev pub end : EndKind → Bool
-end (e.Ret u x) = give x
-end _ = false
+abbrev pub end_at : b.EndKind-F Bool Bool Bool Bool Bool → Bool
+end_at (b.Ret u g) = give g
+end_at (b.If u h x y) = x && y
+end_at (b.CaseAtom i x y) = x && y
+end_at (b.CaseBool u h x y) = x && y
+end_at (b.CaseSeq u h x n s y) = x && y
+end_at (b.Dead q x) = proof q && x
 
-abbrev pub body : Body → Bool
-body x = list_all (λ y. stmt y.kind) (stmts_of x) && end (end_of x)
+abbrev pub body_at : b.Body-F Bool Bool Bool Bool Bool → Bool
+body_at x = list_all (λ s. s) x.stmts && x.end
 
--- a predicate of private cells that is not defined by cases
+abbrev pub spotted_end : b.End-F Bool Bool Bool Bool Bool → Bool
+spotted_end x = x.kind
+
+abbrev pub spotted_stmt : b.Stmt-F Bool Bool Bool Bool Bool → Bool
+spotted_stmt x = x.kind
+
+unfoldable pub body : Body → Bool
+body = fold-Body Bool Bool Bool Bool Bool end_at stmt_at body_at spotted_end spotted_stmt
+
+-- a predicate of private cells that is not defined by cases, and a proc
 abbrev pub decl : DeclKind → Bool
 decl (d.Pred Private q ps p) = assn p
+decl (d.Proc head x) = assn head.pre && assn head.post && body x
 decl _ = false
 
 abbrev pub is_built : Source1 → Bool

@@ -1,5 +1,7 @@
 -- What the program answers to its words and its input on one worker, and what it then has done.
-use Rattle.std.specs.Prelude.{◌≡◌, ◌⊎◌, ℕ, Bool, true, false, ◌<◌, ◌≤◌, ◌&&◌, bytes_eq, List, [], ◌∷◌, length, codes, take, Option, None, Some, if◌then◌else◌, ⊤}
+use Rattle.std.specs.Prelude.{◌≡◌, ◌⊎◌, ℕ, Bool, true, false, ◌<◌, ◌≤◌, nat_le, ◌&&◌, bytes_eq, List, [], ◌∷◌, length, codes, take, Option, None, Some, option_map, option_and_then, unwrap_or, IfSome, if◌then◌else◌, ⊤}
+use Rattle.std.specs.Fmt.{decimal}
+use Rattle.std.specs.Str.Parse.{digits_value}
 use Rattle.std.specs.Io.KnownBytes.{Appends, Keeps}
 use Rattle.tht_tree.specs.declared.file.Source1.{Source1}
 use Rattle.tht_tree.specs.declared.run.End.{End}
@@ -9,7 +11,7 @@ use Rattle.tht_tree.specs.declared.status.Status.TheVariants.{Done, Words, ReadF
 use Rattle.tht_tree.specs.declared.command.Command.{Command}
 use Rattle.tht_tree.specs.declared.command.Command.TheVariants.{Read}
 use Rattle.tht_tree.specs.declared.command.Reader.{Reader}
-use Rattle.tht_tree.specs.declared.command.Reader.TheVariants.{Run, Print}
+use Rattle.tht_tree.specs.declared.command.Reader.TheVariants.{Check, Run, Print}
 use Rattle.tht_tree.specs.declared.walk.WalkRefusal.{WalkRefusal}
 use Rattle.tht_tree.specs.declared.rule.RuleRefusal.{RuleRefusal}
 use Rattle.tht_logic.specs.Built.{is_built}
@@ -26,6 +28,7 @@ use Rattle.tht_tree.specs.Spelling.{IsSpelled, FaultsInSplitting, FaultsInSpelli
 use Rattle.tht_logic.specs.Programs.{root_names}
 use Rattle.tht_tree.specs.Layout.{layout}
 use Rattle.tht_logic.specs.Runs.{State, start_of, run_of, cost_of, Ends, GoesLowest}
+use Rattle.tht_logic.specs.Procedures.{bodies_in}
 use Rattle.tht_logic.specs.Soundness.{IsSound}
 use Rattle.tht_tree.specs.Texts.{fault_text, report_text}
 use Rattle.tht_tree.specs.Lines.{walk_line, rule_line}
@@ -40,17 +43,69 @@ status_of (end.Big b) = Big
 
 -- ---- words
 
+-- what the options of `run` say, as far as they were given: the number of workers, which is 1 so far, and the budget of steps
+pub record Options : Type 0 where
+  pub workers : Option ℕ
+  pub steps : Option ℕ
+
+abbrev pub no_options : Options
+no_options = record { workers = None; steps = None }
+
+-- this number, where it is from one up to a limit and the word is its decimal
+abbrev pub if_written : ℕ → List ℕ → ℕ → Option ℕ
+if_written limit word n = if bytes_eq word (decimal n) && (nat_le 1 n && nat_le n limit) then Some n else None
+
+-- the number from one up to a limit that the word is in decimal, without a sign and without leading zeros
+abbrev pub number_up_to : ℕ → List ℕ → Option ℕ
+number_up_to limit word = if_written limit word (digits_value 10 word)
+
+-- an option that was not given before, where its value is in order
+abbrev pub once : {A : Type 0} → Option A → Option A → Option A
+once None value = value
+once (Some x) value = None
+
+abbrev pub with_workers : Options → Option ℕ → Option Options
+with_workers o None = None
+with_workers o (Some n) = Some (record o { workers = Some n })
+
+abbrev pub with_steps : Options → Option ℕ → Option Options
+with_steps o None = None
+with_steps o (Some n) = Some (record o { steps = Some n })
+
+-- with one more option
+abbrev pub with_option : List ℕ → List ℕ → Options → Option Options
+with_option name value o =
+    if bytes_eq name (codes "--workers") then with_workers o (once o.workers (number_up_to 1 value))
+    else if bytes_eq name (codes "--steps") then with_steps o (once o.steps (number_up_to 1000000 value))
+    else None
+
+-- options in any order, each at most once, a word for the name and one for the value
+abbrev pub with_options : List (List ℕ) → Options → Option Options
+with_options [] o = Some o
+with_options (name ∷ []) o = None
+with_options (name ∷ value ∷ rest) o = option_and_then (with_options rest) (with_option name value o)
+
+-- the budget of steps that is meant where none is given
+abbrev pub default_budget : ℕ
+default_budget = 100000
+
+-- a command that takes no option
+abbrev pub alone : List (List ℕ) → Reader → Option Command
+alone [] reader = Some (Read reader)
+alone (word ∷ words) reader = None
+
+-- `run` with these options; so far the number of workers is to be given
+abbrev pub run_with : Options → Option Command
+run_with o = option_map (λ n. Read (Run (unwrap_or o.steps default_budget))) o.workers
+
 -- the command that the words ask for, or nothing where they are refused
 abbrev pub asked : List (List ℕ) → Option Command
-asked (command ∷ []) = if bytes_eq command (codes "print") then Some (Read Print) else None
-asked (command ∷ option ∷ workers ∷ []) =
-    if bytes_eq command (codes "run") && bytes_eq option (codes "--workers") && bytes_eq workers (codes "1")
-    then Some (Read Run) else None
-asked words = None
-
--- the budget of steps of a run
-abbrev pub budget : ℕ
-budget = 100000
+asked [] = None
+asked (command ∷ words) =
+    if bytes_eq command (codes "run") then option_and_then run_with (with_options words no_options)
+    else if bytes_eq command (codes "check") then alone words Check
+    else if bytes_eq command (codes "print") then alone words Print
+    else None
 
 -- the longest input that is read, in bytes
 abbrev pub input_limit : ℕ
@@ -59,30 +114,37 @@ input_limit = 1048576
 -- ---- answers
 
 -- a run of the file that always steps the lowest branch, the end that it meets, and the report
-pub record Reports (file : Source1) (status : Status) (output : List ℕ) : Type 0 where
+pub record Reports (file : Source1) (budget : ℕ) (status : Status) (output : List ℕ) : Type 0 where
   pub order : List ℕ
   pub end : End
   pub last : State
   pub runs : run_of file budget order ≡ Some last
-  pub ends : GoesLowest (start_of file budget) order end
+  pub ends : GoesLowest (bodies_in file) (start_of file budget) order end
   pub status_is : status ≡ status_of end
   pub output_is : output ≡ report_text (root_names file) end (cost_of budget last) 0 order
 
--- What a command takes as its input: the bytes spell the file, and for `run` all of its forms are built and its names and sorts
+-- What a command takes as its input: the bytes spell the file, and but for `print` all of its forms are built and its names and sorts
 -- are in order.
 abbrev pub Takes : Reader → List ℕ → Source1 → Type 0
-Takes Run input file = IsSource input file
 Takes Print input file = IsSpelled file input
+Takes reader input file = IsSource input file
 
 abbrev pub TakesNone : List ℕ → Reader → Type 0
 TakesNone input reader = (file : Source1) → Takes reader input file → ⊥
+
+-- the output is the line of the first refusal of the file by the rules
+abbrev pub SaysRule : Source1 → List ℕ → Type 0
+SaysRule file output = (refusal : RuleRefusal) × (first_rule_refusal file ≡ Some refusal) × (output ≡ rule_line refusal)
 
 -- what a command answers to a file that it has read, by the status
 abbrev pub Accepts : Reader → Source1 → Status → List ℕ → Type 0
 Accepts Print file Done output = output ≡ layout file
 Accepts Print file status output = ⊥
-Accepts Run file Rule output = (refusal : RuleRefusal) × (first_rule_refusal file ≡ Some refusal) × (output ≡ rule_line refusal)
-Accepts Run file status output = IsAccepted file × Reports file status output
+Accepts Check file Done output = IsAccepted file × (output ≡ codes "accepted\n")
+Accepts Check file Rule output = SaysRule file output
+Accepts Check file status output = ⊥
+Accepts (Run budget) file Rule output = SaysRule file output
+Accepts (Run budget) file status output = IsAccepted file × Reports file budget status output
 
 -- the first fault of the input stands at this spot
 abbrev pub IsFirstFault : List ℕ → TextFault → Spot → Type 0
@@ -118,13 +180,13 @@ pub record SaysRefusal (input output : List ℕ) : Type 0 where
   pub line : output ≡ walk_line refusal
 
 abbrev pub RefusesText : Reader → List ℕ → List ℕ → Type 0
-RefusesText Run input output = SaysFault input output ⊎ SaysLater input output
 RefusesText Print input output = SaysFault input output
+RefusesText reader input output = SaysFault input output ⊎ SaysLater input output
 
 -- `print` takes names and sorts as they are
 abbrev pub RefusesNames : Reader → List ℕ → List ℕ → Type 0
-RefusesNames Run input output = SaysRefusal input output
 RefusesNames Print input output = ⊥
+RefusesNames reader input output = SaysRefusal input output
 
 -- What a command that reads a source answers to its input, by the status. Refusals come in this order: too long, the first
 -- fault of the text, forms that are not built, names and sorts, a rule; then the run's end.
@@ -167,8 +229,12 @@ abbrev pub IsOutOfOrder : List ℕ → Type 0
 IsOutOfOrder input = (file : Source1) × (refusal : WalkRefusal) × IsSpelled file input × (is_built file ≡ true) × (first_refusal file ≡ Some refusal)
 
 -- the run of the file that the input spells ends so, for some branch
-abbrev pub EndsSo : (ℕ → End) → List ℕ → Type 0
-EndsSo ends input = (file : Source1) × (order : List ℕ) × (branch : ℕ) × IsSource input file × GoesLowest (start_of file budget) order (ends branch)
+abbrev pub EndsSo : (ℕ → End) → ℕ → List ℕ → Type 0
+EndsSo ends budget input = (file : Source1) × (order : List ℕ) × (branch : ℕ) × IsSource input file × GoesLowest (bodies_in file) (start_of file budget) order (ends branch)
+
+-- the words ask for a run with some budget, and the run of the file that the input spells, where the source tells it, ends so
+abbrev pub AsksRunTo : (ℕ → End) → Option Command → Option (List ℕ) → Type 0
+AsksRunTo ends command left = (budget : ℕ) × (command ≡ Some (Read (Run budget))) × IfSome left (EndsSo ends budget)
 
 -- whether a status is that of a run that has ended
 abbrev pub ends_a_run : Status → Bool
@@ -181,7 +247,7 @@ ends_a_run status = false
 
 -- What was appended is the report of a run of the one file that the input spells, in the printed order and
 -- within the budget; the run ends as the status says; the file is accepted and sound; and the order is the lowest-first one.
-pub record RunHasEnded (input : List ℕ) (old new : Option (List ℕ)) (status : Status) : Type 0 where
+pub record RunHasEnded (input : List ℕ) (budget : ℕ) (old new : Option (List ℕ)) (status : Status) : Type 0 where
   pub file : Source1
   pub source : IsSource input file
   pub one_file : (other : Source1) → IsSpelled other input → other ≡ file
@@ -191,7 +257,7 @@ pub record RunHasEnded (input : List ℕ) (old new : Option (List ℕ)) (status 
   pub last : State
   pub end : End
   pub runs : run_of file budget order ≡ Some last
-  pub ends : Ends last end
+  pub ends : Ends (bodies_in file) last end
   pub status_is : status ≡ status_of end
   pub text : Appends old new (report_text (root_names file) end (cost_of budget last) 0 order)
-  pub lowest : GoesLowest (start_of file budget) order end
+  pub lowest : GoesLowest (bodies_in file) (start_of file budget) order end

@@ -5,9 +5,9 @@ use Rattle.tht_tree.specs.declared.plain.Value.TheVariants as v
 use Rattle.tht_tree.specs.declared.plain.Place.{Place}
 use Rattle.tht_tree.specs.declared.plain.Place.TheVariants.{Cell}
 use Rattle.tht_tree.specs.declared.plain.Sort.{Sort}
-use Rattle.tht_tree.specs.Values.{Val, is, unit_value, value_in, place_in, has_sort, Env}
+use Rattle.tht_tree.specs.Values.{Val, is, unit_value, value_in, place_in, bool_of, has_sort, Env}
 use Rattle.tht_tree.specs.Syntax.{Trm}
-use Rattle.tht_logic.specs.Programs.{Code, ret, read, write, alloc, drop}
+use Rattle.tht_logic.specs.Programs.{Code, ret, test, read, write, alloc, drop, call, nest}
 use Rattle.tht_tree.specs.Terms.{value_of, fits}
 use Rattle.tht_tree.specs.Heaps.{Heap, Held, shared, own, held_value, with_value, with_at}
 
@@ -20,12 +20,19 @@ pub data Cmd : Type 0 where
   Write : Place → Value → Cmd
   Alloc : List Value → Cmd
   Free : Place → Cmd
+  Call : List ℕ → List Value → Cmd
 
 -- a closed body, by what stands in front: a value, a term that does not fit, or a statement with what follows its answer
 pub data Prog : Type 0 where
   Ended : Value → Prog
   FrontBig : Prog
   Plain : Cmd → (Value → Prog) → Prog
+
+-- a body, and what follows its value
+abbrev pub and_then : Prog → (Value → Prog) → Prog
+and_then (Ended v) rest = rest v
+and_then FrontBig rest = FrontBig
+and_then (Plain c next) rest = Plain c (λ v. and_then (next v) rest)
 
 abbrev pub no_env : Env
 no_env x = is unit_value
@@ -44,10 +51,13 @@ if_fit vs ts c = if all_fit vs ts then c else TermBig
 -- the program with these values of its variables put in, the innermost first
 abbrev pub closed : List Val → Code → Prog
 closed vs (ret t) = if fits no_env vs t then Ended (value vs t) else FrontBig
+closed vs (test t p q) = if fits no_env vs t then (if bool_of (value_of no_env vs t) then closed vs p else closed vs q) else FrontBig
 closed vs (read s t p) = Plain (if_fit vs (t ∷ []) (Read s (place_in (value vs t)))) (λ v. closed (is v ∷ vs) p)
 closed vs (write t u p) = Plain (if_fit vs (t ∷ u ∷ []) (Write (place_in (value vs t)) (value vs u))) (λ v. closed vs p)
 closed vs (alloc ts p) = Plain (if_fit vs ts (Alloc (map (value vs) ts))) (λ v. closed (is v ∷ vs) p)
 closed vs (drop t p) = Plain (if_fit vs (t ∷ []) (Free (place_in (value vs t)))) (λ v. closed vs p)
+closed vs (call f ts p) = Plain (if_fit vs ts (Call f (map (value vs) ts))) (λ v. closed (is v ∷ vs) p)
+closed vs (nest s p q) = and_then (closed vs p) (λ v. closed (is v ∷ vs) q)
 
 -- ---- the memory
 
@@ -122,14 +132,19 @@ at p (Some c) go = go c
 abbrev pub Ran : Type 0
 Ran = Mem × Prog
 
--- one plain statement of branch b, inside an atomic block or not
-abbrev pub plain_step : List ℕ → ℕ → Bool → Mem → Cmd → (Value → Prog) → Said Ran
-plain_step above b inside m TermBig rest = Big
-plain_step above b inside m (Read s p) rest =
+-- the bodies of the procs, by their names, with these values for their parameters
+abbrev pub Bodies : Type 0
+Bodies = List ℕ → List Value → Prog
+
+-- One plain statement of branch b, inside an atomic block or not. After a call the body of the callee stands in front of what follows its result.
+abbrev pub plain_step : Bodies → List ℕ → ℕ → Bool → Mem → Cmd → (Value → Prog) → Said Ran
+plain_step F above b inside m TermBig rest = Big
+plain_step F above b inside m (Read s p) rest =
     at p (touched above b inside (m.heap p)) (λ c. if has_sort s (held_value c) then Next (retag m p (Some c), rest (held_value c)) else Wrong)
-plain_step above b inside m (Write p v) rest = at p (touched above b inside (m.heap p)) (λ c. Next (put m p (Some (with_value c v)), rest unit_value))
-plain_step above b inside m (Alloc vs) rest = Next (alloc_cells m b vs, rest (v.Loc (Cell b (m.made b))))
-plain_step above b inside m (Free p) rest = at p (touched above b inside (m.heap p)) (λ c. Next (retag m p None, rest unit_value))
+plain_step F above b inside m (Write p v) rest = at p (touched above b inside (m.heap p)) (λ c. Next (put m p (Some (with_value c v)), rest unit_value))
+plain_step F above b inside m (Alloc vs) rest = Next (alloc_cells m b vs, rest (v.Loc (Cell b (m.made b))))
+plain_step F above b inside m (Free p) rest = at p (touched above b inside (m.heap p)) (λ c. Next (retag m p None, rest unit_value))
+plain_step F above b inside m (Call f vs) rest = Next (m, and_then (F f vs) rest)
 
 -- the branches: one at work, with its number and its closed body
 pub data Tree : Type 0 where
@@ -155,11 +170,11 @@ abbrev pub at_leaf : ℕ → Ran → Moved
 at_leaf b r = record { cost = 1; mem = r.0; tree = Leaf b r.1 }
 
 -- the step of a branch at work, with n left
-abbrev pub work : List ℕ → ℕ → ℕ → Mem → Prog → Said Moved
-work above b n m (Ended v) = Cannot
-work above b n m FrontBig = Big
-work above b n m (Plain c rest) = unless_zero n (on_next (plain_step above b false m c rest) (λ r. Next (at_leaf b r)))
+abbrev pub work : Bodies → List ℕ → ℕ → ℕ → Mem → Prog → Said Moved
+work F above b n m (Ended v) = Cannot
+work F above b n m FrontBig = Big
+work F above b n m (Plain c rest) = unless_zero n (on_next (plain_step F above b false m c rest) (λ r. Next (at_leaf b r)))
 
 -- the step of branch c in a tree that stands below these ancestors, with n left
-abbrev pub step_of : List ℕ → ℕ → ℕ → Mem → Tree → Said Moved
-step_of above c n m (Leaf b p) = if b == c then work above b n m p else Cannot
+abbrev pub step_of : Bodies → List ℕ → ℕ → ℕ → Mem → Tree → Said Moved
+step_of F above c n m (Leaf b p) = if b == c then work F above b n m p else Cannot

@@ -1,54 +1,86 @@
--- Programs with bound variables by position: proofs, gives, postconditions and the numbers of atoms are gone. Statements and ends that
--- are not named here are not built yet, and no file with one is accepted: such a statement frees what is no cell, a fault.
+-- Programs, the erasure of bodies: proofs, proof steps, gives, boxes, the numbers of atoms, the arguments of calls in brackets, the names of
+-- hypotheses and the names that an author gave to variables are gone, a `case` is its first body, and a `dead` its body. The sorts of results stay:
+-- the machine looks at that of a `read`, and the comparison of two programs at each. Statements that are not named here are not built yet, and no
+-- file with one is accepted: such a statement frees what is no cell, a fault.
 use Rattle.std.specs.Prelude.{ℕ, List, [], ◌∷◌, map}
 use Rattle.tht_tree.specs.declared.plain.Sort.{Sort}
 use Rattle.tht_tree.specs.declared.plain.Value.TheVariants as v
-use Rattle.tht_tree.specs.declared.body.Body.{Body, out-Body}
-use Rattle.tht_tree.specs.declared.body.Stmt.{Stmt}
-use Rattle.tht_tree.specs.declared.body.StmtKind.{StmtKind}
-use Rattle.tht_tree.specs.declared.body.StmtKind.TheVariants as s
-use Rattle.tht_tree.specs.declared.body.EndKind.{EndKind}
-use Rattle.tht_tree.specs.declared.body.EndKind.TheVariants as e
+use Rattle.tht_tree.specs.declared.body.Body.{Body, fold-Body}
+use Rattle.tht_tree.specs.declared.body.End.{End, fold-End}
+use Rattle.tht_tree.specs.declared.body.EndKind.{EndKind, fold-EndKind}
+use Rattle.tht_tree.specs.declared.body.Stmt.{Stmt, fold-Stmt}
+use Rattle.tht_tree.specs.declared.body.StmtKind.{StmtKind, fold-StmtKind}
+use Rattle.tht_tree.specs.declared.body.EndKind.TheOpen as b
 use Rattle.tht_tree.specs.declared.file.Source1.{Source1}
 use Rattle.tht_tree.specs.Values.{is}
 use Rattle.tht_tree.specs.Syntax.{Trm, lit, Names, trm}
 
--- a program: each statement with what follows it
+-- a program: a return, a choice of two, and each statement with what follows it (`drop` is `free`, and `nest` is `do`)
 pub data Code : Type 0 where
   ret : Trm → Code
+  test : Trm → Code → Code → Code
   read : Sort → Trm → Code → Code
   write : Trm → Trm → Code → Code
   alloc : List Trm → Code → Code
   drop : Trm → Code → Code
+  call : List ℕ → List Trm → Code → Code
+  nest : Sort → Code → Code → Code
 
 -- the names of the roots of a file: one of the forms that are built declares none
 abbrev pub root_names : Source1 → Names
 root_names file = []
 
--- a statement and what follows it, where these are the roots and these names are bound
-abbrev pub stmt_code : Names → StmtKind → Names → (Names → Code) → Code
-stmt_code roots (s.Read x sort t i h p) xs next = read sort (trm roots xs t) (next (x ∷ xs))
-stmt_code roots (s.Write t u i p) xs next = write (trm roots xs t) (trm roots xs u) (next xs)
-stmt_code roots (s.Alloc x ts) xs next = alloc (map (trm roots xs) ts) (next (x ∷ xs))
-stmt_code roots (s.Free t i p) xs next = drop (trm roots xs t) (next xs)
-stmt_code roots (s.Proof x) xs next = next xs
-stmt_code roots _ xs next = drop (lit (is v.Unit)) (next xs)
+-- a program where these names are bound, the innermost first; and a statement, which stands before such a program
+abbrev pub Whole : Type 0
+Whole = Names → Code
 
-abbrev pub stmts_code : Names → List Stmt → (Names → Code) → Names → Code
-stmts_code roots [] last xs = last xs
-stmts_code roots (s ∷ ss) last xs = stmt_code roots s.kind xs (stmts_code roots ss last)
+abbrev pub Before : Type 0
+Before = Whole → Whole
 
-abbrev pub end_code : Names → EndKind → Names → Code
-end_code roots (e.Ret t g) xs = ret (trm roots xs t)
-end_code roots _ xs = ret (lit (is v.Unit))
+abbrev pub in_order : List Before → Whole → Whole
+in_order [] end = end
+in_order (s ∷ ss) end = s (in_order ss end)
 
--- the statements of a body, and its end
-abbrev pub stmts_of : Body → List Stmt
-stmts_of body = (out-Body body).stmts
+module _ (roots : Names) where
+  abbrev pub stmt_at : b.StmtKind-F Whole Before Whole Whole Before → Before
+  stmt_at (b.Read x s t i h p) next xs = read s (trm roots xs t) (next (x ∷ xs))
+  stmt_at (b.Write t u i p) next xs = write (trm roots xs t) (trm roots xs u) (next xs)
+  stmt_at (b.Alloc x ts) next xs = alloc (map (trm roots xs) ts) (next (x ∷ xs))
+  stmt_at (b.Free t i p) next xs = drop (trm roots xs t) (next xs)
+  stmt_at (b.Call x f ts us g) next xs = call f (map (trm roots xs) ts) (next (x ∷ xs))
+  stmt_at (b.Do x s ns body box) next xs = nest s (body xs) (next (x ∷ xs))
+  stmt_at (b.Proof x) next xs = next xs
+  stmt_at _ next xs = drop (lit (is v.Unit)) (next xs)
 
-abbrev pub end_of : Body → EndKind
-end_of body = (out-Body body).end.kind
+  abbrev pub end_at : b.EndKind-F Whole Before Whole Whole Before → Whole
+  end_at (b.Ret t g) xs = ret (trm roots xs t)
+  end_at (b.If t h body other) xs = test (trm roots xs t) (body xs) (other xs)
+  end_at (b.CaseAtom i body other) xs = body xs
+  end_at (b.CaseBool t h body other) xs = body xs
+  end_at (b.CaseSeq t h body x s other) xs = body xs
+  end_at (b.Dead p body) xs = body xs
 
--- the program of a body, where these are the roots and these names are bound
-abbrev pub code : Names → Body → Names → Code
-code roots body xs = stmts_code roots (stmts_of body) (end_code roots (end_of body)) xs
+  abbrev pub body_at : b.Body-F Whole Before Whole Whole Before → Whole
+  body_at x = in_order x.stmts x.end
+
+  abbrev pub spotted_end : b.End-F Whole Before Whole Whole Before → Whole
+  spotted_end x = x.kind
+
+  abbrev pub spotted_stmt : b.Stmt-F Whole Before Whole Whole Before → Before
+  spotted_stmt x = x.kind
+
+  -- the program of a body, where these are the roots and these names are bound, the innermost first; and the same of its parts
+  unfoldable pub code : Body → Whole
+  code = fold-Body Whole Before Whole Whole Before end_at stmt_at body_at spotted_end spotted_stmt
+
+  unfoldable pub end_code : End → Whole
+  end_code = fold-End Whole Before Whole Whole Before end_at stmt_at body_at spotted_end spotted_stmt
+
+  unfoldable pub end_kind_code : EndKind → Whole
+  end_kind_code = fold-EndKind Whole Before Whole Whole Before end_at stmt_at body_at spotted_end spotted_stmt
+
+  unfoldable pub stmt_code : Stmt → Before
+  stmt_code = fold-Stmt Whole Before Whole Whole Before end_at stmt_at body_at spotted_end spotted_stmt
+
+  unfoldable pub stmt_kind_code : StmtKind → Before
+  stmt_kind_code = fold-StmtKind Whole Before Whole Whole Before end_at stmt_at body_at spotted_end spotted_stmt

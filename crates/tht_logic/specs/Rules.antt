@@ -6,5 +6,6 @@ pub mod Steps
 pub mod Scoped
 pub mod Formed
 pub mod Commands
+pub mod Calls
 pub mod Bodies
 pub mod Files

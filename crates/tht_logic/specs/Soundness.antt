@@ -3,28 +3,30 @@ use Rattle.std.specs.Prelude.{◌≡◌, ℕ, zero, suc, ◌<◌, true, false, L
 use Rattle.tht_tree.specs.declared.plain.Place.{Place}
 use Rattle.tht_tree.specs.declared.plain.Place.TheVariants.{Cell}
 use Rattle.tht_tree.specs.declared.plain.Value.{Value}
-use Rattle.tht_tree.specs.declared.assn.Assn.{Assn}
+use Rattle.tht_tree.specs.declared.state.Post.{Post}
 use Rattle.tht_tree.specs.declared.file.Source1.{Source1}
-use Rattle.tht_tree.specs.Values.{is, Env, bind}
+use Rattle.tht_tree.specs.Values.{is, Env, bind, has_sort}
 use Rattle.tht_tree.specs.Syntax.{Names}
 use Rattle.tht_logic.specs.Programs.{root_names}
 use Rattle.tht_logic.specs.Assertions.{asn}
 use Rattle.tht_logic.specs.Meanings.{meaning_in}
 use Rattle.tht_tree.specs.Heaps.{Heap, Held, own, Joins, IsEmpty, shared_part, private_part}
 use Rattle.tht_logic.specs.Satisfaction.{Meaning, Satisfies}
-use Rattle.tht_logic.specs.Machine.{Mem, Tree, Leaf, Ended, Said, Next, Touch, Wrong, Moved, step_of, branches, below, is_in, no_env}
+use Rattle.tht_logic.specs.Procedures.{bodies_in, main_post}
+use Rattle.tht_logic.specs.Machine.{Bodies, Mem, Tree, Leaf, Ended, Said, Next, Touch, Wrong, Moved, step_of, branches, below, is_in, no_env}
 use Rattle.tht_logic.specs.Runs.{State, run_of}
 
 -- what the shared cells satisfy, and what the private ones with a result
 abbrev pub Assertion : Type 1
 Assertion = Heap → Type 0
 
-abbrev pub Post : Type 1
-Post = Value → Heap → Type 0
+abbrev pub Postcondition : Type 1
+Postcondition = Value → Heap → Type 0
 
--- a postcondition: an assertion, where predicates mean this, these are the roots and this name has the result's value
-abbrev pub post_of : Meaning → Names → Env → List ℕ → Assn → Post
-post_of M roots env r a v h = Satisfies M (bind env r (is v)) [] (asn roots [] a) h
+-- What a postcondition says of a result and a heap, where predicates mean this, these are the roots, and other variables have these values: the result is of
+-- the sort, and the assertion holds of the heap, where the name has the result's value.
+abbrev pub post_of : Meaning → Names → Env → Post → Postcondition
+post_of M roots env post v h = (has_sort post.sort v ≡ true) × Satisfies M (bind env post.result (is v)) [] (asn roots [] post.assn) h
 
 -- the shared cells' invariant of a file that declares none: there are no such cells
 abbrev pub no_invariant : Assertion
@@ -39,12 +41,12 @@ IsSafe _ = Unit {0}
 -- ---- soundness
 
 -- A file is sound: after every order that is a run within some budget no step of a branch, whatever is left, is a fault;
--- the shared cells satisfy the invariant; and where main has a value, the private cells satisfy main's postcondition.
+-- the shared cells satisfy the invariant; and where main has a value, it is of main's sort, and the private cells satisfy main's postcondition.
 pub record IsSound (file : Source1) : Type 0 where
-  pub safe : (budget : ℕ) (order : List ℕ) (s : State) → run_of file budget order ≡ Some s → (b n : ℕ) → IsSafe (step_of [] b n s.mem s.tree)
+  pub safe : (budget : ℕ) (order : List ℕ) (s : State) → run_of file budget order ≡ Some s → (b n : ℕ) → IsSafe (step_of (bodies_in file) [] b n s.mem s.tree)
   pub invariant : (budget : ℕ) (order : List ℕ) (s : State) → run_of file budget order ≡ Some s → no_invariant (shared_part s.mem.heap)
   pub ends : (budget : ℕ) (order : List ℕ) (s : State) → run_of file budget order ≡ Some s → (v : Value) → s.tree ≡ Leaf 0 (Ended v)
-      → post_of (meaning_in file) (root_names file) no_env file.main.result file.main.post v (private_part s.mem.heap)
+      → post_of (meaning_in file) (root_names file) no_env (main_post file) v (private_part s.mem.heap)
 
 -- ---- the measure
 
@@ -88,12 +90,12 @@ Leaves next I f r = (q : Heap) × Joins q f (private_part r.mem.heap) × I (shar
 
 -- From each memory in which the tree may stand: a value satisfies the post, and no step of a branch of the tree is a
 -- fault, changes the cells beside or breaks the invariant.
-pub record Takes (next : Tree → Heap → Type 0) (I : Assertion) (above : List ℕ) (t : Tree) (p : Heap) (Q : Post) : Type 0 where
+pub record Takes (next : Tree → Heap → Type 0) (F : Bodies) (I : Assertion) (above : List ℕ) (t : Tree) (p : Heap) (Q : Postcondition) : Type 0 where
   pub ends : (f : Heap) (m : Mem) → Stands I above t p f m → (b : ℕ) (v : Value) → t ≡ Leaf b (Ended v) → Q v p
-  pub safe : (f : Heap) (m : Mem) → Stands I above t p f m → (b n : ℕ) → IsSafe (step_of above b n m t)
-  pub goes : (f : Heap) (m : Mem) → Stands I above t p f m → (b n : ℕ) → Leads (step_of above b n m t) (Leaves next I f)
+  pub safe : (f : Heap) (m : Mem) → Stands I above t p f m → (b n : ℕ) → IsSafe (step_of F above b n m t)
+  pub goes : (f : Heap) (m : Mem) → Stands I above t p f m → (b n : ℕ) → Leads (step_of F above b n m t) (Leaves next I f)
 
--- the tree with the private cells p keeps to the post Q for k steps
-abbrev pub Keeps : Assertion → ℕ → List ℕ → Tree → Heap → Post → Type 0
-Keeps I zero above t p Q = Unit {0}
-Keeps I (suc k) above t p Q = Takes (λ u q. Keeps I k above u q Q) I above t p Q
+-- where procs have these bodies, the tree with the private cells p keeps to the post Q for k steps
+abbrev pub Keeps : Bodies → Assertion → ℕ → List ℕ → Tree → Heap → Postcondition → Type 0
+Keeps F I zero above t p Q = Unit {0}
+Keeps F I (suc k) above t p Q = Takes (λ u q. Keeps F I k above u q Q) F I above t p Q

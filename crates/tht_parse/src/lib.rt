@@ -24,6 +24,3 @@ mod terms;
 
 pub use end::ParseEnd;
 pub use parser::parse;
-
-#[cfg(test)]
-mod tests;

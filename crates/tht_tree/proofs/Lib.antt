@@ -4,4 +4,5 @@ pub mod TermInduction
 pub mod TermValues
 pub mod SameTerm
 pub mod Rows
-pub mod OneLevel
+pub mod Entered
+pub mod Scopes

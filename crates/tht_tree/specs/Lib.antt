@@ -4,7 +4,6 @@ pub mod Syntax
 pub mod Terms
 pub mod SameTree
 pub mod WithoutSpots
-pub mod Levels
 pub mod Heaps
 pub mod Satisfaction
 pub mod Tokens

@@ -38,8 +38,9 @@ impl Assn {
     }
 }
 
+/// An equal assertion.
 #[cycle(copy)]
-pub(crate) fn copy_assn(alloc: Global, assn: &Assn) -> Result<Assn, AllocError>
+pub fn copy_assn(alloc: Global, assn: &Assn) -> Result<Assn, AllocError>
     ensures { IfOk result (λ a. a ≡ assn.now) }
 {
     match assn {

@@ -19,8 +19,6 @@ pub mod state;
 pub mod status;
 pub mod step;
 pub mod term;
-#[cfg(test)]
-mod tests;
 pub mod text_fault;
 pub mod token;
 pub mod walk;

@@ -1,9 +1,11 @@
 // The checker's state.
-ghost use Rattle.std.specs.Prelude.{◌≡◌};
+ghost use Rattle.std.specs.Prelude.{◌≡◌, IfOk, OnOk};
+ghost use Rattle.std.specs.BTreeMap.{insert_entry};
+ghost use Rattle.std.specs.Ordering.{nat_cmp};
 ghost use Rattle.tht_tree.specs.Rules.Context.{context_of, no_context};
 
 use crate::assn::Assn;
-use crate::plain::{Name, Sort};
+use crate::plain::{Memory, Name, Sort};
 use crate::term::Term;
 use sqlite_items::Items;
 use std::alloc::Global;
@@ -78,5 +80,66 @@ impl State {
             atoms: BTreeMap::new(alloc),
             made: 0,
         }
+    }
+
+    /// An equal state. At want of memory nothing is left of it.
+    pub fn copy(&self, alloc: Global) -> Result<State, Memory>
+        ensures { IfOk result (λ s. context_of s ≡ context_of self.now) }
+    {
+        let scope = self.scope.clone()?;
+        let hyps = copy_hyps(alloc, self.hyps.as_slice())?;
+        let atoms = copy_atoms(alloc, &self.atoms)?;
+        Ok(State {
+            scope,
+            hyps,
+            atoms,
+            made: self.made,
+        })
+    }
+}
+
+// Equal hypotheses.
+fn copy_hyps(alloc: Global, hyps: &[Hyp]) -> Result<Items<Hyp>, Memory>
+    ensures { IfOk result (λ h. h ≡ hyps.now) }
+{
+    let mut copies = Items::new(alloc);
+    for hyp in hyps {
+        copies.push(copy_hyp(alloc, hyp)?)?;
+    }
+    Ok(copies)
+}
+
+fn copy_hyp(alloc: Global, hyp: &Hyp) -> Result<Hyp, Memory>
+    ensures { IfOk result (λ h. h ≡ hyp.now) }
+{
+    Ok(Hyp {
+        name: hyp.name.copy()?,
+        formula: hyp.formula.copy(alloc)?,
+    })
+}
+
+// Equal atoms, with the same numbers.
+fn copy_atoms(alloc: Global, atoms: &BTreeMap<u32, Assn>) -> Result<BTreeMap<u32, Assn>, Memory>
+    ensures { IfOk result (λ m. m.entries ≡ atoms.now.entries) }
+{
+    let mut copies = BTreeMap::new(alloc);
+    for (number, atom) in atoms.iter() {
+        add_copy(alloc, &mut copies, *number, atom)?;
+    }
+    Ok(copies)
+}
+
+fn add_copy(
+    alloc: Global,
+    copies: &mut BTreeMap<u32, Assn>,
+    number: u32,
+    atom: &Assn,
+) -> Result<(), Memory>
+    ensures { OnOk result (copies.new.entries ≡ insert_entry nat_cmp copies.old.entries number atom.now) }
+{
+    let atom = atom.copy(alloc)?;
+    match copies.insert(number, atom) {
+        Ok(_shadowed) => Ok(()),
+        Err(_failed) => Err(Memory),
     }
 }

@@ -78,15 +78,17 @@ pub(crate) fn copy_term(alloc: Global, term: &Term) -> Result<Term, AllocError>
     }
 }
 
+/// An equal term.
 #[cycle(copy)]
-pub(crate) fn copy(alloc: Global, term: &Boxed<Term>) -> Result<Boxed<Term>, AllocError>
+pub fn copy(alloc: Global, term: &Boxed<Term>) -> Result<Boxed<Term>, AllocError>
     ensures { IfOk result (λ t. t ≡ term.now) }
 {
     let inner = copy_term(alloc, term.get())?;
     Boxed::new(alloc, inner)
 }
 
-pub(crate) fn copy_terms(alloc: Global, terms: &Items<Term>) -> Result<Items<Term>, AllocError>
+/// Equal terms.
+pub fn copy_terms(alloc: Global, terms: &Items<Term>) -> Result<Items<Term>, AllocError>
     ensures { IfOk result (λ ts. ts ≡ terms.now) }
 {
     let mut copies = Items::new(alloc);
@@ -128,15 +130,17 @@ pub fn same_term(term: &Term, other: &Term) -> bool
     }
 }
 
+/// Whether the two are the same tree.
 #[cycle(same)]
-pub(crate) fn same(term: &Boxed<Term>, other: &Boxed<Term>) -> bool
+pub fn same(term: &Boxed<Term>, other: &Boxed<Term>) -> bool
     ensures decides { IsTrue result ↔ (term.now ≡ other.now) }
     ensures test { result ≡ same_of term.now other.now }
 {
     same_term(term.get(), other.get())
 }
 
-pub(crate) fn same_terms(terms: &Items<Term>, others: &Items<Term>) -> bool
+/// Whether the two lists are the same trees.
+pub fn same_terms(terms: &Items<Term>, others: &Items<Term>) -> bool
     ensures { IsTrue result ↔ (terms.now ≡ others.now) }
 {
     if terms.len() != others.len() {

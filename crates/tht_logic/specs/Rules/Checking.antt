@@ -34,16 +34,16 @@ on_ok (Err r) go = Err r
 abbrev pub on_true : {A : Type 0} → Spot → RuleCode → Bool → Checked A → Checked A
 on_true spot code holds answer = unless_refused (needs spot code holds) answer
 
--- what is put in, which is refused where it is too large
+-- what putting in makes, which is refused where it is too large
 abbrev pub put_or_refused : {A : Type 0} → Spot → Result A PutEnd → Checked A
 put_or_refused spot (Ok x) = Ok x
 put_or_refused spot (Err e) = reject spot R10
 
--- what is known, if it is not too large
+-- what is known, if it is within the limits of a context
 abbrev pub if_fits : Spot → Context → Checked Context
 if_fits spot c = on_true spot R10 (context_fits c) (Ok c)
 
--- refused as what is checked first, or else as what goes on with it
+-- the first refusal of a check, or else of what goes on with what it makes
 abbrev pub and_then : {A : Type 0} → Checked A → (A → Option RuleRefusal) → Option RuleRefusal
 and_then (Ok x) go = go x
 and_then (Err r) go = Some r

@@ -1,5 +1,4 @@
--- The rules of statements: what the checker knows after a statement, or the first that is refused in it. Statements that are not
--- named here are not built yet.
+-- The rules of statements on private cells: what the checker knows after one, or the first that is refused in it.
 use Rattle.std.specs.Prelude.{ℕ, zero, suc, List, [], ◌∷◌, Option, Some, None}
 use Rattle.std.specs.List.{list_all}
 use Rattle.tht_tree.specs.declared.plain.Spot.{Spot}
@@ -10,9 +9,7 @@ use Rattle.tht_tree.specs.declared.term.Term.TheVariants as term
 use Rattle.tht_tree.specs.declared.assn.Assn.{Assn}
 use Rattle.tht_tree.specs.declared.assn.Assn.TheVariants as assn
 use Rattle.tht_tree.specs.declared.proof.Proof.{Proof}
-use Rattle.tht_tree.specs.declared.body.StmtKind.{StmtKind}
-use Rattle.tht_tree.specs.declared.body.StmtKind.TheVariants as s
-use Rattle.tht_tree.specs.declared.rule.RuleCode.TheVariants.{R1, R2, R5, R10}
+use Rattle.tht_tree.specs.declared.rule.RuleCode.TheVariants.{R1, R2, R10}
 use Rattle.tht_tree.specs.declared.rule.RuleRefusal.{RuleRefusal}
 use Rattle.tht_tree.specs.declared.state.Local.TheVariants.{Variable}
 use Rattle.tht_tree.specs.Rules.Sizes.{formula_fits, assn_fits}
@@ -23,8 +20,6 @@ use Rattle.tht_tree.specs.Rules.Known.{Declared, with_hyp}
 use Rattle.tht_tree.specs.Rules.Proofs.{prove, proves}
 use Rattle.tht_logic.specs.Flatten.{with_atoms}
 use Rattle.tht_logic.specs.Rules.Checking.{Checked, reject, unless_refused, on_true, if_fits}
-use Rattle.tht_logic.specs.Rules.Definitions.{Declarations}
-use Rattle.tht_logic.specs.Rules.Steps.{after_step}
 
 -- goes on with the place and the value of the cell of an atom
 abbrev pub on_cell : Spot → Option Assn → (Term → Term → Checked Context) → Checked Context
@@ -69,12 +64,3 @@ abbrev pub after_alloc : Spot → Context → List ℕ → List Term → Checked
 after_alloc spot c x ts =
     on_true spot R10 (list_all assn_fits (new_cells x 0 ts))
     (if_fits spot (with_atoms (new_cells x 0 ts) (record c { scope = with_local c.scope x (Variable sort.Loc) })))
-
--- what is known after the statement at this spot
-abbrev pub after_stmt : Declarations → Spot → Context → StmtKind → Checked Context
-after_stmt decl spot c (s.Read x r t i h q) = after_read decl.proofs spot c x r t i h q
-after_stmt decl spot c (s.Write t u i q) = after_write decl.proofs spot c t u i q
-after_stmt decl spot c (s.Alloc x ts) = after_alloc spot c x ts
-after_stmt decl spot c (s.Free t i q) = after_free decl.proofs spot c t i q
-after_stmt decl spot c (s.Proof x) = after_step decl c x
-after_stmt decl spot c _ = reject spot R5

@@ -5,13 +5,16 @@ use Rattle.tht_tree.specs.declared.term.Term.{Term, out-Term}
 use Rattle.tht_tree.specs.declared.term.Term.TheOpen as t
 use Rattle.tht_tree.specs.declared.assn.Assn.{Assn}
 use Rattle.tht_tree.specs.declared.decl.Param.{Param}
+use Rattle.tht_tree.specs.declared.decl.Head.{Head}
 use Rattle.tht_tree.specs.declared.decl.Decl.{Decl}
 use Rattle.tht_tree.specs.declared.decl.DeclKind.{DeclKind}
 use Rattle.tht_tree.specs.declared.decl.DeclKind.TheVariants as d
 use Rattle.tht_tree.specs.declared.form.PutEnd.{PutEnd}
+use Rattle.tht_tree.specs.declared.state.Local.TheVariants.{Variable}
 use Rattle.tht_tree.specs.declared.rule.RuleCode.TheVariants.{R10, R13}
 use Rattle.tht_tree.specs.Normal.Putting.{Puts, put_name}
 use Rattle.tht_tree.specs.Rules.Known.{Declared}
+use Rattle.tht_tree.specs.Rules.Context.{Scope, no_locals, with_local}
 use Rattle.tht_logic.specs.Putting.{put_assn_within}
 use Rattle.tht_logic.specs.Rules.Checking.{Checked, reject}
 
@@ -36,11 +39,21 @@ pub record Lemma : Type 0 where
   pub pre : Assn
   pub post : Assn
 
--- What is declared: what proofs may use, and the predicates and lemmas by their names.
+-- with the variables that stand for parameters
+abbrev pub with_params : Scope → List Param → Scope
+with_params scope [] = scope
+with_params scope (p ∷ ps) = with_params (with_local scope p.name (Variable p.sort)) ps
+
+-- what is in scope in a proc: its parameters and its logical variables; the result is in its postcondition alone
+abbrev pub head_scope : Head → Scope
+head_scope x = with_params (with_params no_locals x.params) x.logic
+
+-- What is declared: what proofs may use, and the predicates, lemmas and procs by their names.
 pub record Declarations : Type 0 where
   pub proofs : Declared
   pub predicates : List ℕ → Option Predicate
   pub lemmas : List ℕ → Option Lemma
+  pub procs : List ℕ → Option Head
 
 -- why an instance has no definition: no case of its predicate is for it, or the definition would be too large
 pub data DefEnd : Type 0 where

@@ -83,7 +83,7 @@ module _ (decl : Declarations) (spot : Spot) (c : Context) where
   after_rewrite i k u q =
       on_atom i (part_at k) (λ part. if_equal_by u q part (if_fits spot (record c { atoms = with_atom i (part.with u) c.atoms })))
 
-  -- the postcondition of a lemma for its precondition, each with these arguments
+  -- a lemma with these arguments: the atoms that prove its precondition are consumed, and those of its postcondition added
   abbrev pub after_lemma : List Term → Give → Lemma → Checked Context
   after_lemma ts x l =
       on_ok (put_or_refused spot (put_assn_within (arguments l.params ts) l.pre)) (λ pre.

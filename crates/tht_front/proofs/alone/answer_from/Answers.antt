@@ -1,7 +1,7 @@
 use Rattle.std.proofs.Common.{◌≡◌, sym, ◌∙◌}
 use Rattle.tht_tree.specs.declared.command.Command.TheVariants.{Read}
 use Rattle.tht_grammar.proofs.Texts.{one_file}
-use Rattle.tht_front.proofs.Answering.{big, if_ok_then, not_taken, one_command, out_of_order, refused, spent}
+use Rattle.tht_front.proofs.Answering.{big_so, if_ok, if_ok_then, not_taken, one_command, out_of_order, refused, spent_so}
 use Rattle.tht_front.proofs.alone.answer_from.Goals as goal
 
 pub returns-in-Some-Read-clause-names : goal.returns-in-Some-Read-clause-names
@@ -14,11 +14,17 @@ returns-in-Some-Read-clause-rule g c =
 
 pub returns-in-Some-Read-clause-spent : goal.returns-in-Some-Read-clause-spent
 returns-in-Some-Read-clause-spent g c =
-    if_ok_then c.answer_from_file.result _ _ (λ answer said same. spent _ _ answer.status answer.output.items said same) c.answer_from_file.ensures.answer
+    if_ok c.answer_from_file.result _ _ _
+    (λ answer said runs same.
+    spent_so _ _ answer.output.items c.in-Some-Read.field-0 answer.status (sym c.read_words.ensures ∙ c.in-Some-Read.is) (λ r is. rw is at said) (λ r is. rw is at runs) same)
+    c.answer_from_file.ensures.answer c.answer_from_file.ensures.run
 
 pub returns-in-Some-Read-clause-big : goal.returns-in-Some-Read-clause-big
 returns-in-Some-Read-clause-big g c =
-    if_ok_then c.answer_from_file.result _ _ (λ answer said same. big _ _ answer.status answer.output.items said same) c.answer_from_file.ensures.answer
+    if_ok c.answer_from_file.result _ _ _
+    (λ answer said runs same.
+    big_so _ _ answer.output.items c.in-Some-Read.field-0 answer.status (sym c.read_words.ensures ∙ c.in-Some-Read.is) (λ r is. rw is at said) (λ r is. rw is at runs) same)
+    c.answer_from_file.ensures.answer c.answer_from_file.ensures.run
 
 pub returns-in-Some-Read-clause-text : goal.returns-in-Some-Read-clause-text
 returns-in-Some-Read-clause-text g c =

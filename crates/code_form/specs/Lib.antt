@@ -1,0 +1,11 @@
+pub mod Branches
+pub mod BranchValue
+pub mod Codes
+pub mod Eval
+pub mod Files
+pub mod Hops
+pub mod Means
+pub mod Stack
+pub mod Statements
+pub mod Turns
+pub mod Lowering

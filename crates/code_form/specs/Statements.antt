@@ -1,0 +1,62 @@
+-- What a statement asks for, and where it goes on once it was carried out.
+use Rattle.std.specs.Prelude.{ℕ, ◌≤◌, nat_lt, Bool, true, false, List, [], length, Option, Some, None}
+use Rattle.tht_tree.specs.declared.plain.Value.{Value}
+use Rattle.tht_tree.specs.declared.plain.Value.TheVariants as v
+use Rattle.tht_tree.specs.declared.plain.Place.{Place}
+use Rattle.tht_tree.specs.Values.{place_in}
+use Rattle.code_form.specs.declared.expr.Expr.{Expr}
+use Rattle.code_form.specs.declared.code.Node.{Node}
+use Rattle.code_form.specs.declared.code.Node.TheVariants as node
+use Rattle.code_form.specs.declared.branch.Ask.{Ask}
+use Rattle.code_form.specs.declared.branch.Ask.TheVariants as ask
+use Rattle.code_form.specs.declared.branch.Told.{Told}
+use Rattle.code_form.specs.declared.branch.Told.TheVariants.{Went, Got}
+use Rattle.code_form.specs.declared.branch.Way.{Way}
+use Rattle.code_form.specs.declared.branch.Way.TheVariants.{On, In, Nowhere}
+use Rattle.code_form.specs.Eval.{eval_of, all_of}
+
+-- ---- asking
+
+abbrev pub or_ask : Option Value → (Value → Ask) → Ask
+or_ask None f = ask.TermBig
+or_ask (Some w) f = f w
+
+abbrev pub alloc_ask : Option (List Value) → Ask
+alloc_ask None = ask.TermBig
+alloc_ask (Some vs) = ask.Alloc vs
+
+abbrev pub is_there : Option (List Value) → Bool
+is_there None = false
+is_there (Some vs) = true
+
+abbrev pub call_ask : Bool → Option (List Value) → Ask
+call_ask false vs = ask.FrontBig
+call_ask true None = ask.TermBig
+call_ask true (Some vs) = ask.Call
+
+abbrev pub node_ask : ℕ → Node → List Value → Ask
+node_ask bodies (node.Read s e next) env = or_ask (eval_of e env) (λ w. ask.Read (place_in w) s)
+node_ask bodies (node.Write e f next) env = or_ask (eval_of e env) (λ w. or_ask (eval_of f env) (ask.Write (place_in w)))
+node_ask bodies (node.Alloc es next) env = alloc_ask (all_of env es)
+node_ask bodies (node.Free e next) env = or_ask (eval_of e env) (λ w. ask.Free (place_in w))
+node_ask bodies (node.Call f es next) env = call_ask (nat_lt f bodies) (all_of env es)
+node_ask bodies _ env = ask.FrontBig
+
+-- ---- going on
+
+abbrev pub way_in : Node → Told → Place → Way
+way_in (node.Read s e next) (Got w) place = On (record { next = next; bound = Some w; cells = 0 })
+way_in (node.Write e f next) Went place = On (record { next = next; bound = None; cells = 0 })
+way_in (node.Alloc es next) Went place = On (record { next = next; bound = Some (v.Loc place); cells = length es })
+way_in (node.Free e next) Went place = On (record { next = next; bound = None; cells = 0 })
+way_in (node.Call f es next) Went place = In (record { body = f; next = next })
+way_in _ _ place = Nowhere
+
+-- no statement makes more than eight cells
+abbrev pub HasFewCells : Way → Type 0
+HasFewCells (On a) = a.cells ≤ 8
+HasFewCells _ = Unit {0}
+
+abbrev pub arguments_in : Node → List Expr
+arguments_in (node.Call f es next) = es
+arguments_in _ = []

@@ -1,0 +1,4 @@
+pub mod Refused
+pub mod Starting
+pub mod InOrder
+pub mod Accepting

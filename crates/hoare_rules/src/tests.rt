@@ -1,5 +1,0 @@
-// Small bodies, with their postconditions. What each answer must be is worked out by hand from the rules.
-mod gives;
-mod small;
-mod statements;
-mod steps;

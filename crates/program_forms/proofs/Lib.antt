@@ -1,0 +1,4 @@
+pub mod Lists
+pub mod Leveled
+pub mod Rowed
+pub mod SameRows

@@ -1,0 +1,6 @@
+//! Rules that inner bodies share: atoms that are dealt.
+#![tactic(auto)]
+
+mod dealing;
+
+pub use dealing::deal;

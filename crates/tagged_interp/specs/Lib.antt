@@ -1,0 +1,2 @@
+pub mod Labs
+pub mod Steps

@@ -1,5 +1,0 @@
-use Rattle.std.proofs.Common.{◌≡◌, take}
-use Rattle.tht_tree.proofs.proof.+copy.Given as goal
-
-abbrev pub invariant-copy_entries-loop-entry : goal.invariant-copy_entries-loop-entry
-invariant-copy_entries-loop-entry l = l.copies ≡ take l.entry-index l.entries
