@@ -1,31 +1,29 @@
 -- Nodes stand for the statements that they were made of.
-use Rattle.std.proofs.Common.{◌≡◌, ℕ, suc, ◌+◌, ◌-◌, ◌<◌, ◌≤◌, Bool, true, false, cond, ◌&&◌, List, [], ◌∷◌, ◌++◌, length, length-append, map, reverse, take, slice_get, refl, sym, ◌∙◌, ap, subst, Option, Some, None, arith}
+use Rattle.std.proofs.Common.{◌≡◌, ℕ, suc, ◌+◌, ◌-◌, ◌<◌, Bool, true, false, cond, ◌&&◌, List, [], ◌∷◌, ◌++◌, length, length-append, map, reverse, take, slice_get, refl, sym, ◌∙◌, ap, subst, Option, Some, None, arith}
 use Rattle.std.specs.Prelude.{is_some, bytes_eq, unwrap_or}
 use Rattle.std.proofs.lemmas.List.{append-nil, reverse-append, take_all}
 use Rattle.std.proofs.lemmas.Slice.Eq.{bytes_eq-Decides}
 use mathlib.Core.Path.{fun_ext}
 use Rattle.tht_tree.specs.declared.plain.Sort.{Sort}
 use Rattle.tht_tree.specs.declared.plain.Value.{Value}
-use Rattle.tht_tree.specs.declared.plain.Value.TheVariants as v
-use Rattle.tht_tree.specs.declared.plain.Place.TheVariants.{Null}
 use Rattle.tht_tree.specs.declared.term.Term.{Term}
-use Rattle.tht_tree.specs.Syntax.{Names, Trm, lit, trm, position}
-use Rattle.tht_tree.specs.Values.{Val, is, place_in, bool_of, bool_in}
-use Rattle.tht_tree.specs.Terms.{value_of, fits}
+use Rattle.tht_tree.specs.Syntax.{Names, Trm, trm, position}
+use Rattle.tht_tree.specs.Values.{Val, is, place_in, bool_in}
+use Rattle.tht_tree.specs.Terms.{fits}
 use Rattle.tht_logic.specs.Machine as machine
-use Rattle.tht_logic.specs.Machine.{Cmd, TermBig, Prog, Ended, FrontBig, Plain, and_then, closed, no_env, value, all_fit, if_fit}
-use Rattle.tht_logic.specs.Programs.{Code, ret, test, read, write, alloc, drop, call, nest, Whole}
+use Rattle.tht_logic.specs.Machine.{Cmd, TermBig, Prog, Ended, FrontBig, Plain, Block, Fork, and_then, closed, no_env, value, all_fit, if_fit}
+use Rattle.tht_logic.specs.Programs.{Code, ret, test, read, write, alloc, drop, publish, retract, call, nest, atomic, par, Whole}
 use Rattle.code_form.specs.declared.code.Node.{Node}
 use Rattle.code_form.specs.declared.code.Node.TheVariants as node
-use Rattle.code_form.specs.declared.expr.Expr.TheVariants as E
 use Rattle.code_form.specs.declared.bodies.Behind.{Behind}
 use Rattle.code_form.specs.declared.bodies.Behind.TheVariants.{Caller, Inside}
 use Rattle.code_form.specs.Eval.{eval_of, all_of}
 use Rattle.code_form.specs.Means.{Means, means_at, meaning, or_big, or_cmd, or_cmds, calling}
 use Rattle.tht_logic.specs.PlainPrograms.{no_sequence, no_sequences}
 use Rattle.code_form.specs.Lowering.{expr_of, is_plain_over, follows, IsBehind, Stands, number_in, end_node}
-use Rattle.code_form.proofs.Evaluating.{eval_lit, both_true, if_fits, means, all_means}
+use Rattle.code_form.proofs.Evaluating.{both_true, if_fits, means, all_means}
 use Rattle.code_form.proofs.Growing.{meaning_grown, meaning_last, follows_same, follows_bound}
+use Rattle.code_form.proofs.Started.{and_then_ended}
 
 abbrev pub some_or : ℕ → Option ℕ → ℕ
 some_or d None = d
@@ -37,6 +35,8 @@ pub and_then_and_then : (p : Prog) (f g : Value → Prog) → and_then (and_then
 and_then_and_then (Ended w) f g = refl
 and_then_and_then FrontBig f g = refl
 and_then_and_then (Plain c next) f g = λ i. Plain c (λ w. and_then_and_then (next w) f g i)
+and_then_and_then (Block p next) f g = λ i. Block p (λ w. and_then_and_then (next w) f g i)
+and_then_and_then (Fork p q next) f g = λ i. Fork p q (λ w u. and_then_and_then (next w u) f g i)
 
 -- ---- commands
 
@@ -79,6 +79,19 @@ module _ (procs : Names) (old more : List Node) (behind : Behind) (bound : Names
       ap (λ z. and_then (closed z (p (reverse (bound ++ x ∷ [])))) (follows (meaning procs old) (bound ++ x ∷ []) behind (env ++ w ∷ []))) is_it ∙
       ap (λ z. and_then (closed (is w ∷ values) (p z)) (follows (meaning procs old) (bound ++ x ∷ []) behind (env ++ w ∷ []))) names ∙
       ap (and_then (closed (is w ∷ values) (p (x ∷ reverse bound)))) behind_it
+
+  -- with two values bound
+  pub goes_on_two : (next : ℕ) (x y : List ℕ) (p : Whole) → Stands procs old behind (bound ++ x ∷ y ∷ []) next p → is_plain_over procs (p (y ∷ x ∷ reverse bound)) ≡ true → (w u : Value) →
+      meaning procs old next (env ++ w ∷ u ∷ []) ≡ and_then (closed (is u ∷ is w ∷ values) (p (y ∷ x ∷ reverse bound))) after_it
+  goes_on_two next x y p stands plain w u =
+      let names : reverse (bound ++ x ∷ y ∷ []) ≡ y ∷ x ∷ reverse bound = reverse-append bound (x ∷ y ∷ []) in
+      let is_it : map is (reverse (env ++ w ∷ u ∷ [])) ≡ is u ∷ is w ∷ values = ap (map is) (reverse-append env (w ∷ u ∷ [])) in
+      let behind_it : follows (meaning procs old) (bound ++ x ∷ y ∷ []) behind (env ++ w ∷ u ∷ []) ≡ after_it =
+      follows_bound procs (meaning procs old) old bound (x ∷ y ∷ []) behind env (w ∷ u ∷ []) ready refl ∙ sym (follows_same procs old more bound behind env ready) in
+      stands (ap (λ z. is_plain_over procs (p z)) names ∙ plain) (env ++ w ∷ u ∷ []) ∙
+      ap (λ z. and_then (closed z (p (reverse (bound ++ x ∷ y ∷ [])))) (follows (meaning procs old) (bound ++ x ∷ y ∷ []) behind (env ++ w ∷ u ∷ []))) is_it ∙
+      ap (λ z. and_then (closed (is u ∷ is w ∷ values) (p z)) (follows (meaning procs old) (bound ++ x ∷ y ∷ []) behind (env ++ w ∷ u ∷ []))) names ∙
+      ap (and_then (closed (is u ∷ is w ∷ values) (p (y ∷ x ∷ reverse bound)))) behind_it
 
   -- with no value bound
   pub goes_on_bare : (next : ℕ) (p : Whole) → Stands procs old behind (bound ++ []) next p → is_plain_over procs (p (reverse bound)) ≡ true →
@@ -167,16 +180,30 @@ module _ (procs : Names) (old : List Node) (behind : Behind) (bound : Names) (re
       one_fits (fits no_env (map is (reverse env)) (trm [] xs t)) (value (map is (reverse env)) (trm [] xs t)) (λ w. machine.Free (place_in w)))
       stands
 
-  -- what is not built yet
-  pub fault_stands : (next : ℕ) (p : Whole) → Stands procs old behind (bound ++ []) next p →
-      Stands procs (old ++ node.Free (E.Lit v.Unit) next ∷ []) behind bound (length old) (λ ys. drop (lit (is v.Unit)) (p ys))
-  fault_stands next p stands =
-      passing (node.Free (E.Lit v.Unit) next) next p (λ ys. drop (lit (is v.Unit)) (p ys))
-      (λ env. or_cmd (eval_of (E.Lit v.Unit) env) (λ w. machine.Free (place_in w)))
-      (λ env. machine.Free Null)
+  pub publish_stands : (t : Term) (next : ℕ) (p : Whole) → Stands procs old behind (bound ++ []) next p →
+      Stands procs (old ++ node.Publish (expr_of xs t) next ∷ []) behind bound (length old) (λ ys. publish (trm [] ys t) (p ys))
+  publish_stands t next p stands =
+      passing (node.Publish (expr_of xs t) next) next p (λ ys. publish (trm [] ys t) (p ys))
+      (λ env. or_cmd (eval_of (expr_of xs t) env) (λ w. machine.Publish (place_in w)))
+      (λ env. if_fit (map is (reverse env)) (trm [] xs t ∷ []) (machine.Publish (place_in (value (map is (reverse env)) (trm [] xs t)))))
       (λ env. refl) (λ env. refl)
-      (λ ok. ok)
-      (λ ok env. ap (λ z. or_cmd z (λ w. machine.Free (place_in w))) (eval_lit v.Unit env))
+      (λ ok. (both_true (no_sequence (trm [] xs t)) (is_plain_over procs (p xs)) ok).1)
+      (λ ok env.
+      ap (λ z. or_cmd z (λ w. machine.Publish (place_in w))) (means env xs t (both_true (no_sequence (trm [] xs t)) (is_plain_over procs (p xs)) ok).0).answer ∙
+      one_fits (fits no_env (map is (reverse env)) (trm [] xs t)) (value (map is (reverse env)) (trm [] xs t)) (λ w. machine.Publish (place_in w)))
+      stands
+
+  pub retract_stands : (t : Term) (next : ℕ) (p : Whole) → Stands procs old behind (bound ++ []) next p →
+      Stands procs (old ++ node.Retract (expr_of xs t) next ∷ []) behind bound (length old) (λ ys. retract (trm [] ys t) (p ys))
+  retract_stands t next p stands =
+      passing (node.Retract (expr_of xs t) next) next p (λ ys. retract (trm [] ys t) (p ys))
+      (λ env. or_cmd (eval_of (expr_of xs t) env) (λ w. machine.Retract (place_in w)))
+      (λ env. if_fit (map is (reverse env)) (trm [] xs t ∷ []) (machine.Retract (place_in (value (map is (reverse env)) (trm [] xs t)))))
+      (λ env. refl) (λ env. refl)
+      (λ ok. (both_true (no_sequence (trm [] xs t)) (is_plain_over procs (p xs)) ok).1)
+      (λ ok env.
+      ap (λ z. or_cmd z (λ w. machine.Retract (place_in w))) (means env xs t (both_true (no_sequence (trm [] xs t)) (is_plain_over procs (p xs)) ok).0).answer ∙
+      one_fits (fits no_env (map is (reverse env)) (trm [] xs t)) (value (map is (reverse env)) (trm [] xs t)) (λ w. machine.Retract (place_in w)))
       stands
 
   pub write_stands : (t u : Term) (next : ℕ) (p : Whole) → Stands procs old behind (bound ++ []) next p →
@@ -223,6 +250,34 @@ module _ (procs : Names) (old : List Node) (behind : Behind) (bound : Names) (re
       ap (λ z. calling z (all_of env (map (expr_of xs) ts)) (λ w. meaning procs old next (env ++ w ∷ []))) (named_at procs f parts.0) ∙
       ap (λ z. Plain z (λ w. meaning procs old next (env ++ w ∷ []))) same ∙
       ap (Plain d) (fun_ext (goes_on procs old (n ∷ []) behind bound ready env next x p stands inner.1))
+
+  -- a body whose value goes to its caller
+  alone : (i : ℕ) (q : Whole) → Stands procs old Caller bound i q → is_plain_over procs (q xs) ≡ true → (env : List Value) → meaning procs old i env ≡ closed (map is (reverse env)) (q xs)
+  alone i q stands ok env = stands ok env ∙ and_then_ended (closed (map is (reverse env)) (q xs))
+
+  -- an atomic block, where its body stands
+  pub atomic_stands : (s : Sort) (first next : ℕ) (x : List ℕ) (q p : Whole) → Stands procs old Caller bound first q → Stands procs old behind (bound ++ x ∷ []) next p →
+      Stands procs (old ++ node.Atomic first next ∷ []) behind bound (length old) (λ ys. atomic s (q ys) (p (x ∷ ys)))
+  atomic_stands s first next x q p body stands ok env =
+      let parts = both_true (is_plain_over procs (q xs)) (is_plain_over procs (p (x ∷ xs))) ok in
+      let n : Node = node.Atomic first next in
+      meaning_last procs old n env ∙
+      ap (λ z. Block z (λ w. meaning procs old next (env ++ w ∷ []))) (alone first q body parts.0 env) ∙
+      ap (Block (closed (map is (reverse env)) (q xs))) (fun_ext (goes_on procs old (n ∷ []) behind bound ready env next x p stands parts.1))
+
+  -- a fork, where its bodies stand
+  pub fork_stands : (s r : Sort) (one other next : ℕ) (x y : List ℕ) (q u p : Whole) → Stands procs old Caller bound one q → Stands procs old Caller bound other u →
+      Stands procs old behind (bound ++ x ∷ y ∷ []) next p →
+      Stands procs (old ++ node.Fork one other next ∷ []) behind bound (length old) (λ ys. par s r (q ys) (u ys) (p (y ∷ x ∷ ys)))
+  fork_stands s r one other next x y q u p left right stands ok env =
+      let parts = both_true (is_plain_over procs (q xs)) (is_plain_over procs (u xs) && is_plain_over procs (p (y ∷ x ∷ xs))) ok in
+      let later = both_true (is_plain_over procs (u xs)) (is_plain_over procs (p (y ∷ x ∷ xs))) parts.1 in
+      let n : Node = node.Fork one other next in
+      let vs : List Val = map is (reverse env) in
+      meaning_last procs old n env ∙
+      ap (λ z. Fork z (meaning procs old other env) (λ w k. meaning procs old next (env ++ w ∷ k ∷ []))) (alone one q left parts.0 env) ∙
+      ap (λ z. Fork (closed vs (q xs)) z (λ w k. meaning procs old next (env ++ w ∷ k ∷ []))) (alone other u right later.0 env) ∙
+      ap (Fork (closed vs (q xs)) (closed vs (u xs))) (fun_ext (λ w. fun_ext (goes_on_two procs old (n ∷ []) behind bound ready env next x y p stands later.1 w)))
 
   -- ---- ends
 
@@ -276,6 +331,11 @@ module _ (procs : Names) (old more : List Node) (behind : Behind) (bound : Names
   pub behind_grown : (k : Behind) → IsBehind old bound k → IsBehind (old ++ more) bound k
   behind_grown Caller h = tt
   behind_grown (Inside keep next) h = (h.0, let n = h.1 in omega (arith, n, length-append old more))
+
+  -- what stands behind a body stands so where more is bound
+  pub behind_bound : (ns : Names) (k : Behind) → IsBehind old bound k → IsBehind old (bound ++ ns) k
+  behind_bound ns Caller h = tt
+  behind_bound ns (Inside keep next) h = (let k = h.0 in omega (arith, k, length-append bound ns), h.1)
 
   pub stands_grown : (i : ℕ) (p : Whole) → IsBehind old bound behind → i < length old → Stands procs old behind bound i p → Stands procs (old ++ more) behind bound i p
   stands_grown i p ready there stands ok env =

@@ -1,5 +1,5 @@
 -- The code of a file, from the bodies of its procs and main's.
-use Rattle.std.proofs.Common.{◌≡◌, ℕ, ◌+◌, ◌<◌, ◌≤◌, Bool, true, false, cond, ◌&&◌, List, [], ◌∷◌, ◌++◌, length, length-append, map, reverse, take, get_or, refl, sym, ◌∙◌, ap, subst, Option, Some, None, Result, Ok, Err, IfOk, OnOk, arith}
+use Rattle.std.proofs.Common.{◌≡◌, ℕ, ◌+◌, ◌<◌, ◌≤◌, Bool, true, false, cond, List, [], ◌∷◌, ◌++◌, length, length-append, map, reverse, take, get_or, refl, sym, ◌∙◌, ap, subst, Option, Some, None, Result, Ok, Err, IfOk, OnOk, arith}
 use Rattle.std.specs.Prelude.{is_some, bytes_eq}
 use Rattle.std.specs.List.{list_all}
 use Rattle.std.proofs.lemmas.List.{map-append, reverse-append, take_more, take_all}
@@ -15,7 +15,7 @@ use Rattle.tht_tree.specs.declared.decl.DeclKind.TheVariants as d
 use Rattle.tht_tree.specs.declared.file.Source1.{Source1}
 use Rattle.tht_tree.specs.Syntax.{Names, position}
 use Rattle.tht_tree.specs.Values.{is}
-use Rattle.tht_logic.specs.Machine.{Prog, Ended, FrontBig, Plain, and_then, closed}
+use Rattle.tht_logic.specs.Machine.{closed}
 use Rattle.tht_logic.specs.Programs.{code as program, root_names}
 use Rattle.tht_logic.specs.Procedures.{Procedure, Procedures, with_procedure, with_declared_procedure, with_procedures, procedures_of, bound_names, body_with, bodies_in}
 use Rattle.tht_logic.specs.PlainPrograms.{is_plain_program, is_plain_body, is_plain_decl, is_plain_file}
@@ -28,6 +28,7 @@ use Rattle.code_form.specs.Codes.{means_of, at_body, bodies_of}
 use Rattle.code_form.specs.Means.{names_of, body_named, meaning, AreFound}
 use Rattle.code_form.specs.Files.{with_proc_names, unmade, with_start, IsStart, HasBodies}
 use Rattle.code_form.specs.Lowering.{Stands, Lowered, is_plain_over}
+use Rattle.code_form.proofs.Started.{and_then_ended}
 use Rattle.code_form.proofs.Emitting.{stands_grown}
 use Rattle.code_form.proofs.Evaluating.{both_true}
 use Rattle.code_form.proofs.FoundBodies.{found_all, found_is, names_kept, started, others, unmade_names, named_procedures, names_apart}
@@ -186,11 +187,6 @@ plain_over : (decls : List Decl) (x : Body) (xs : Names) → is_plain_body [] (p
 plain_over decls x xs h = sym (ap (λ z. is_plain_program z (program [] x xs)) (known_same decls)) ∙ h
 
 -- ---- the whole code
-
-pub and_then_ended : (p : Prog) → and_then p Ended ≡ p
-and_then_ended (Ended w) = refl
-and_then_ended FrontBig = refl
-and_then_ended (Plain c next) = λ i. Plain c (λ w. and_then_ended (next w) i)
 
 map_reversed : (vs : List Value) → map is (reverse vs) ≡ reverse (map is vs)
 map_reversed [] = refl

@@ -1,9 +1,11 @@
 pub mod Asked
+pub mod BlocksAhead
 pub mod Built
 pub mod Lists
 pub mod Passed
 pub mod Returns
 pub mod Rows
+pub mod Standings
 pub mod Started
 pub mod Turned
 pub mod Evaluating

@@ -1,5 +1,5 @@
 -- Statements one after another, and bodies.
-use Rattle.std.proofs.Common.{◌≡◌, ℕ, ◌+◌, ◌<◌, ◌≤◌, List, [], ◌∷◌, ◌++◌, length, length-append, map, take, get_or, refl, sym, ◌∙◌, ap, subst, arith, Result, Ok, Err, IfOk}
+use Rattle.std.proofs.Common.{◌≡◌, ℕ, ◌+◌, ◌<◌, ◌≤◌, List, [], ◌∷◌, ◌++◌, length, map, take, get_or, refl, sym, ◌∙◌, ap, subst, Result, Ok, Err, IfOk}
 use Rattle.std.proofs.lemmas.List.{append-nil, append_assoc, take_more, take_all}
 use Rattle.tht_tree.specs.declared.body.Body.{Body, out-Body}
 use Rattle.tht_tree.specs.declared.body.Stmt.{Stmt}
@@ -7,12 +7,10 @@ use Rattle.tht_tree.specs.declared.plain.Memory.{Memory}
 use Rattle.tht_tree.specs.Syntax.{Names}
 use Rattle.tht_logic.specs.Programs.{code, end_code, stmt_code, stmt_kind_code, in_order, Whole}
 use Rattle.tht_logic.proofs.Levels.{code_is, stmt_is}
-use Rattle.code_form.specs.declared.code.Node.{Node}
 use Rattle.code_form.specs.declared.bodies.Behind.{Behind}
-use Rattle.code_form.specs.declared.bodies.Behind.TheVariants.{Caller, Inside}
 use Rattle.code_form.specs.declared.bodies.Work.{Work}
-use Rattle.code_form.specs.Lowering.{Stands, IsBehind, Added, Lowered, StmtLowered, StmtsLowered, Bound, Unbound, bound_by, bound_in}
-use Rattle.code_form.proofs.Emitting.{behind_grown}
+use Rattle.code_form.specs.Lowering.{Stands, IsBehind, Lowered, StmtLowered, StmtsLowered, Bound, Unbound, bound_by, bound_in}
+use Rattle.code_form.proofs.Emitting.{behind_grown, behind_bound}
 
 -- ---- names
 
@@ -29,11 +27,6 @@ bound_more w0 w1 w2 xs x a b = record {
   nodes = b.nodes ∙ a.nodes;
   procs = b.procs ∙ a.procs;
 }
-
--- what stands behind a body stands so where more is bound
-pub behind_bound : (nodes : List Node) (bound ns : Names) (behind : Behind) → IsBehind nodes bound behind → IsBehind nodes (bound ++ ns) behind
-behind_bound nodes bound ns Caller h = tt
-behind_bound nodes bound ns (Inside keep next) h = (let k = h.0 in omega (arith, k, length-append bound ns), h.1)
 
 -- one statement more is bound, of those that are gone through
 pub bound_next : (w0 w1 w2 : Work) (xs : List Stmt) (i : ℕ) (x : Stmt) → i < length xs → x ≡ get_or xs i x → Bound w0 w1 (bound_in (take i xs)) → Bound w1 w2 (bound_by x.kind) → Bound w0 w2 (bound_in (take (i + 1) xs))
@@ -74,7 +67,7 @@ one_more old mid cut new outer x done last at i before unbound e =
           let whole : Whole = in_order (map (λ s. stmt_code [] s) done) p in
           let names : outer ++ bound_in (x ∷ done) ≡ (outer ++ bound_by x.kind) ++ bound_in done = sym (append_assoc outer (bound_by x.kind) (bound_in done)) in
           let rest : Stands old.procs mid.nodes behind (outer ++ bound_by x.kind) at whole =
-          before.stands behind p (behind_bound old.nodes outer (bound_by x.kind) behind ready) l (subst (λ z. Stands old.procs old.nodes behind z last p) names inner) in
+          before.stands behind p (behind_bound old.procs old.nodes [] behind outer (bound_by x.kind) behind ready) l (subst (λ z. Stands old.procs old.nodes behind z last p) names inner) in
           let ready_here : IsBehind cut.nodes cut.bound behind =
           subst (λ z. IsBehind cut.nodes z behind) (sym one) (subst (λ z. IsBehind z outer behind) (sym nodes_is) (behind_grown old.procs old.nodes before.more behind outer behind ready)) in
           let rest_here : Stands cut.procs cut.nodes behind (cut.bound ++ bound_by x.kind) at whole =
@@ -124,7 +117,7 @@ body_lowered w0 w1 w2 w3 body behind last i bound low made =
     let names : w2.bound ≡ w0.bound ++ bound_in (out-Body body).stmts = a.bound ∙ bound.bound in
     let all : StmtsLowered w2 w3 w0.bound (out-Body body).stmts last i = made w0.bound names in
     let ready_end : IsBehind w0.nodes w0.bound behind → IsBehind w1.nodes w1.bound behind = λ ready.
-    subst (λ z. IsBehind w1.nodes z behind) (sym bound.bound) (subst (λ z. IsBehind z (w0.bound ++ bound_in (out-Body body).stmts) behind) (sym bound.nodes) (behind_bound w0.nodes w0.bound (bound_in (out-Body body).stmts) behind ready)) in
+    subst (λ z. IsBehind w1.nodes z behind) (sym bound.bound) (subst (λ z. IsBehind z (w0.bound ++ bound_in (out-Body body).stmts) behind) (sym bound.nodes) (behind_bound w0.procs w0.nodes [] behind w0.bound (bound_in (out-Body body).stmts) behind ready)) in
     record {
       added = record {
         more = a.more ++ all.more;

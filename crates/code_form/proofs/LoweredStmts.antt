@@ -1,5 +1,5 @@
 -- Statements and ends as nodes, form by form.
-use Rattle.std.proofs.Common.{◌≡◌, ℕ, ◌+◌, ◌<◌, ◌≤◌, List, [], ◌∷◌, ◌++◌, length, length-append, map, reverse, refl, sym, ◌∙◌, ap, subst, arith, Result, Ok, Err, IfOk}
+use Rattle.std.proofs.Common.{◌≡◌, ℕ, ◌<◌, List, [], ◌∷◌, ◌++◌, length, length-append, map, reverse, refl, sym, ◌∙◌, ap, subst, arith, Result, Ok, Err, IfOk}
 use Rattle.std.proofs.lemmas.List.{append-nil, append_assoc}
 use Rattle.tht_tree.specs.declared.assn.Assn.{Assn}
 use Rattle.tht_tree.specs.declared.body.Body.{Body, fold-Body}
@@ -15,10 +15,7 @@ use Rattle.tht_tree.specs.declared.proof.Proof.{Proof}
 use Rattle.tht_tree.specs.declared.step.Step.{Step}
 use Rattle.tht_tree.specs.declared.plain.Sort.{Sort}
 use Rattle.tht_tree.specs.declared.term.Term.{Term}
-use Rattle.tht_tree.specs.Syntax.{Names, lit, trm}
-use Rattle.tht_tree.specs.Values.{is}
-use Rattle.tht_tree.specs.declared.plain.Value.TheVariants as v
-use Rattle.code_form.specs.declared.expr.Expr.TheVariants as E
+use Rattle.tht_tree.specs.Syntax.{Names, trm}
 use Rattle.tht_logic.specs.Programs.{code, stmt_kind_code, end_code, end_kind_code, Whole, Before}
 use Rattle.tht_logic.specs.Programs as programs
 use Rattle.tht_logic.proofs.Levels.{end_is, read_is, write_is, alloc_is, free_is, call_is, do_is, proof_is, publish_is, retract_is, atomic_is, par_is, ret_is, if_is, case_atom_is, case_bool_is, case_seq_is, dead_is}
@@ -28,7 +25,7 @@ use Rattle.code_form.specs.declared.bodies.Behind.{Behind}
 use Rattle.code_form.specs.declared.bodies.Behind.TheVariants.{Caller, Inside}
 use Rattle.code_form.specs.declared.bodies.Work.{Work}
 use Rattle.code_form.specs.Lowering.{expr_of, number_in, end_node, Stands, IsBehind, Added, Emitted, Lowered, StmtLowered, bound_at, bound_by}
-use Rattle.code_form.proofs.Emitting.{read_stands, write_stands, alloc_stands, free_stands, fault_stands, call_stands, ret_stands, test_stands, nest_stands, stands_grown, behind_grown}
+use Rattle.code_form.proofs.Emitting.{read_stands, write_stands, alloc_stands, free_stands, publish_stands, retract_stands, call_stands, atomic_stands, fork_stands, ret_stands, test_stands, nest_stands, stands_grown, behind_grown, behind_bound}
 
 pub in_ok : {T E : Type 0} {P Q : T → Type 0} (r : Result T E) → ((x : T) → P x → Q x) → IfOk r P → IfOk r Q
 in_ok (Ok x) f h = f x h
@@ -110,35 +107,34 @@ module _ (old new : Work) (i : ℕ) where
             (subst (λ z. Stands old.procs z (Inside (length old.bound) next) old.bound i (code [] body)) a.nodes (low.stands (omega arith, l))) inner);
       }))
 
-  -- what is not built yet
-  fault : (next : ℕ) (before : Before) → before ≡ (λ p ys. programs.drop (lit (is v.Unit)) (p ys)) → Emitted old new (node.Free (E.Lit v.Unit) next) i → StmtLowered old new [] next before i
-  fault next before is_it h =
-      subst (λ z. StmtLowered old new [] next z i) (sym is_it)
-      (one_node _ [] next (λ p ys. programs.drop (lit (is v.Unit)) (p ys)) h (λ behind p ready l inner. fault_stands old.procs old.nodes behind old.bound ready next p inner))
-
-  pub publish_lowered : (t : Term) (j : ℕ) (q : Proof) (next : ℕ) → Emitted old new (node.Free (E.Lit v.Unit) next) i →
+  pub publish_lowered : (t : Term) (j : ℕ) (q : Proof) (next : ℕ) → Emitted old new (node.Publish (expr_of (reverse old.bound) t) next) i →
       StmtLowered old new (bound_by (s.Publish t j q)) next (stmt_kind_code [] (s.Publish t j q)) i
-  publish_lowered t j q next h =
+  publish_lowered t j q next e =
       subst (λ n. StmtLowered old new n next (stmt_kind_code [] (s.Publish t j q)) i) (sym (ap bound_by (sym (s.rolls-Publish t j q)) ∙ bound_is (b.Publish t j q)))
-      (fault next _ (publish_is [] t j q) h)
+      (subst (λ z. StmtLowered old new [] next z i) (sym (publish_is [] t j q))
+      (one_node _ [] next (λ p ys. programs.publish (trm [] ys t) (p ys)) e (λ behind p ready l inner. publish_stands old.procs old.nodes behind old.bound ready t next p inner)))
 
-  pub retract_lowered : (t : Term) (j : ℕ) (q : Proof) (next : ℕ) → Emitted old new (node.Free (E.Lit v.Unit) next) i →
+  pub retract_lowered : (t : Term) (j : ℕ) (q : Proof) (next : ℕ) → Emitted old new (node.Retract (expr_of (reverse old.bound) t) next) i →
       StmtLowered old new (bound_by (s.Retract t j q)) next (stmt_kind_code [] (s.Retract t j q)) i
-  retract_lowered t j q next h =
+  retract_lowered t j q next e =
       subst (λ n. StmtLowered old new n next (stmt_kind_code [] (s.Retract t j q)) i) (sym (ap bound_by (sym (s.rolls-Retract t j q)) ∙ bound_is (b.Retract t j q)))
-      (fault next _ (retract_is [] t j q) h)
+      (subst (λ z. StmtLowered old new [] next z i) (sym (retract_is [] t j q))
+      (one_node _ [] next (λ p ys. programs.retract (trm [] ys t) (p ys)) e (λ behind p ready l inner. retract_stands old.procs old.nodes behind old.bound ready t next p inner)))
 
-  pub atomic_lowered : (x : List ℕ) (r : Sort) (ns : List ℕ) (body : Body) (box : Assn) (next : ℕ) → Emitted old new (node.Free (E.Lit v.Unit) next) i →
-      StmtLowered old new (bound_by (s.Atomic x r ns body box)) next (stmt_kind_code [] (s.Atomic x r ns body box)) i
-  atomic_lowered x r ns body box next h =
+  -- a block, and a fork
+  pub atomic_lowered : (x : List ℕ) (r : Sort) (ns : List ℕ) (body : Body) (box : Assn) (next : ℕ)
+      → ((y : List ℕ) (z : Sort) → StmtLowered old new (y ∷ []) next (λ rest ys. programs.atomic z (code [] body ys) (rest (y ∷ ys))) i)
+      → StmtLowered old new (bound_by (s.Atomic x r ns body box)) next (stmt_kind_code [] (s.Atomic x r ns body box)) i
+  atomic_lowered x r ns body box next made =
       subst (λ n. StmtLowered old new n next (stmt_kind_code [] (s.Atomic x r ns body box)) i) (sym (ap bound_by (sym (s.rolls-Atomic x r ns body box)) ∙ bound_is (b.Atomic x r ns body box)))
-      (fault next _ (atomic_is [] x r ns body box) h)
+      (subst (λ z. StmtLowered old new (x ∷ []) next z i) (sym (atomic_is [] x r ns body box)) (made x r))
 
-  pub par_lowered : (x : List ℕ) (r : Sort) (y : List ℕ) (z : Sort) (ns : List ℕ) (body : Body) (box : Assn) (ms : List ℕ) (other : Body) (last : Assn) (next : ℕ) → Emitted old new (node.Free (E.Lit v.Unit) next) i →
-      StmtLowered old new (bound_by (s.Par x r y z ns body box ms other last)) next (stmt_kind_code [] (s.Par x r y z ns body box ms other last)) i
-  par_lowered x r y z ns body box ms other last next h =
-      subst (λ n. StmtLowered old new n next (stmt_kind_code [] (s.Par x r y z ns body box ms other last)) i) (sym (ap bound_by (sym (s.rolls-Par x r y z ns body box ms other last)) ∙ bound_is (b.Par x r y z ns body box ms other last)))
-      (fault next _ (par_is [] x r y z ns body box ms other last) h)
+  pub par_lowered : (x : List ℕ) (r : Sort) (y : List ℕ) (z : Sort) (ns : List ℕ) (left : Body) (box : Assn) (ms : List ℕ) (right : Body) (last : Assn) (next : ℕ)
+      → ((a c : List ℕ) (d f : Sort) → StmtLowered old new (a ∷ c ∷ []) next (λ rest ys. programs.par d f (code [] left ys) (code [] right ys) (rest (c ∷ a ∷ ys))) i)
+      → StmtLowered old new (bound_by (s.Par x r y z ns left box ms right last)) next (stmt_kind_code [] (s.Par x r y z ns left box ms right last)) i
+  par_lowered x r y z ns left box ms right last next made =
+      subst (λ n. StmtLowered old new n next (stmt_kind_code [] (s.Par x r y z ns left box ms right last)) i) (sym (ap bound_by (sym (s.rolls-Par x r y z ns left box ms right last)) ∙ bound_is (b.Par x r y z ns left box ms right last)))
+      (subst (λ k. StmtLowered old new (x ∷ y ∷ []) next k i) (sym (par_is [] x r y z ns left box ms right last)) (made x y r z))
 
   -- ---- ends
 
@@ -231,3 +227,66 @@ both_lowered old one two new t body other behind i j k low high h =
           (subst (λ z. Stands two.procs z behind two.bound k (λ ys. programs.test (trm [] ys t) (code [] body ys) (code [] other ys))) (sym h.nodes)
           (subst (λ z. Stands two.procs (two.nodes ++ node.If (expr_of (reverse two.bound) t) i j ∷ []) behind two.bound z (λ ys. programs.test (trm [] ys t) (code [] body ys) (code [] other ys))) (sym h.number) all)));
     }
+
+-- ---- blocks and forks with their bodies
+
+-- a node behind others, which were added to those that there were
+module _ (old one new : Work) (n : Node) (i : ℕ) (a : Added old one) (h : Emitted one new n i) where
+  added_more : Added old new
+  added_more = record {
+    more = a.more ++ n ∷ [];
+    nodes = h.nodes ∙ ap (λ z. z ++ n ∷ []) a.nodes ∙ append_assoc old.nodes a.more (n ∷ []);
+    bound = h.bound ∙ a.bound;
+    procs = h.procs ∙ a.procs;
+  }
+
+  -- what stands behind, and the rest, among the nodes before it
+  behind_before : (behind : Behind) → IsBehind old.nodes old.bound behind → IsBehind one.nodes old.bound behind
+  behind_before behind ready = subst (λ z. IsBehind z old.bound behind) (sym a.nodes) (behind_grown old.procs old.nodes a.more behind old.bound behind ready)
+
+  rest_before : (behind : Behind) (names : Names) (next : ℕ) (p : Whole) → IsBehind old.nodes old.bound behind → next < length old.nodes
+      → Stands old.procs old.nodes behind (old.bound ++ names) next p → Stands old.procs one.nodes behind (old.bound ++ names) next p
+  rest_before behind names next p ready l inner =
+      subst (λ z. Stands old.procs z behind (old.bound ++ names) next p) (sym a.nodes)
+      (stands_grown old.procs old.nodes a.more behind (old.bound ++ names) next p (behind_bound old.procs old.nodes [] behind old.bound names behind ready) l inner)
+
+  stands_last : (behind : Behind) (q : Whole) → Stands old.procs (one.nodes ++ n ∷ []) behind old.bound (length one.nodes) q → Stands old.procs new.nodes behind old.bound i q
+  stands_last behind q stands =
+      subst (λ k. Stands old.procs new.nodes behind old.bound k q) (sym h.number)
+      (subst (λ z. Stands old.procs z behind old.bound (length one.nodes) q) (sym h.nodes) stands)
+
+  -- a statement that is this node
+  last_lowered : (names : Names) (next : ℕ) (before : Before)
+      → ((behind : Behind) (p : Whole) → IsBehind one.nodes old.bound behind → Stands old.procs one.nodes behind (old.bound ++ names) next p
+      → Stands old.procs (one.nodes ++ n ∷ []) behind old.bound (length one.nodes) (before p))
+      → StmtLowered old new names next before i
+  last_lowered names next before stands = record {
+    added = added_more;
+    there = λ l. there one new i n h;
+    stands = λ behind p ready l inner. stands_last behind (before p) (stands behind p (behind_before behind ready) (rest_before behind names next p ready l inner));
+  }
+
+pub atomic_made : (old one new : Work) (body : Body) (next first i : ℕ) → Lowered old one Caller (code [] body) first → Emitted one new (node.Atomic first next) i
+    → (x : List ℕ) (r : Sort) → StmtLowered old new (x ∷ []) next (λ rest ys. programs.atomic r (code [] body ys) (rest (x ∷ ys))) i
+atomic_made old one new body next first i low h x r =
+    last_lowered old one new (node.Atomic first next) i low.added h (x ∷ []) next (λ rest ys. programs.atomic r (code [] body ys) (rest (x ∷ ys)))
+    (λ behind p ready inner. atomic_stands old.procs one.nodes behind old.bound ready r first next x (code [] body) p (low.stands tt) inner)
+
+pub par_made : (old one two new : Work) (left right : Body) (next j k i : ℕ) → Lowered old one Caller (code [] left) j → Lowered one two Caller (code [] right) k
+    → Emitted two new (node.Fork j k next) i
+    → (x y : List ℕ) (r z : Sort) → StmtLowered old new (x ∷ y ∷ []) next (λ rest ys. programs.par r z (code [] left ys) (code [] right ys) (rest (y ∷ x ∷ ys))) i
+par_made old one two new left right next j k i low high h x y r z =
+    let a = low.added in
+    let b = high.added in
+    let both : Added old two = record {
+      more = a.more ++ b.more;
+      nodes = b.nodes ∙ ap (λ w. w ++ b.more) a.nodes ∙ append_assoc old.nodes a.more b.more;
+      bound = b.bound ∙ a.bound;
+      procs = b.procs ∙ a.procs;
+    } in
+    let first : Stands old.procs two.nodes Caller old.bound j (code [] left) =
+    subst (λ w. Stands old.procs w Caller old.bound j (code [] left)) (sym b.nodes) (stands_grown old.procs one.nodes b.more Caller old.bound j (code [] left) tt (low.there tt) (low.stands tt)) in
+    let second : Stands old.procs two.nodes Caller old.bound k (code [] right) =
+    subst (λ w. Stands w two.nodes Caller old.bound k (code [] right)) a.procs (subst (λ w. Stands one.procs two.nodes Caller w k (code [] right)) a.bound (high.stands tt)) in
+    last_lowered old two new (node.Fork j k next) i both h (x ∷ y ∷ []) next (λ rest ys. programs.par r z (code [] left ys) (code [] right ys) (rest (y ∷ x ∷ ys)))
+    (λ behind p ready inner. fork_stands old.procs two.nodes behind old.bound ready r z j k next x y (code [] left) (code [] right) p first second inner)

@@ -1,20 +1,14 @@
 -- What a branch is seen as.
-use Rattle.std.specs.Prelude.{ℕ, ◌≤◌, List}
-use Rattle.tht_tree.specs.declared.plain.Value.{Value}
-use Rattle.code_form.specs.declared.frames.Frame.{Frame}
-use Rattle.code_form.specs.declared.frames.Front.{Front}
-use Rattle.code_form.specs.Stack.{Chain, IsAtEnd}
+use Rattle.std.specs.Prelude.{ℕ}
+use Rattle.code_form.specs.declared.branch.Mode.{Mode}
+use Rattle.code_form.specs.StackValue.{StackValue}
 
--- Its number, the number of its steps, the next index of its arena, what stands in front, and the values of the variables
--- of all calls that are under way, with their frames: the variables of the innermost begin at `base`.
+-- Its number, the number of its steps, the next index of its arena, where it stands, its body on its way, and that of the block that it is inside
+-- of. Inside a block its body stands at the block, and where it waits for children at the fork.
 pub record BranchValue : Type 0 where
   pub number : ℕ
   pub steps : ℕ
   pub next_index : ℕ
-  pub front : Front
-  pub base : ℕ
-  pub values : List Value
-  pub frames : List Frame
-
-abbrev pub IsStack : Front → ℕ → ℕ → List Frame → Type 0
-IsStack front base len frames = Chain 0 frames base × (base ≤ len) × IsAtEnd front frames
+  pub mode : Mode
+  pub body : StackValue
+  pub block : StackValue

@@ -1,5 +1,8 @@
 pub mod Branches
 pub mod BranchValue
+pub mod Fronts
+pub mod Stacks
+pub mod StackValue
 pub mod Codes
 pub mod Eval
 pub mod Files

@@ -124,6 +124,8 @@ bound_at (b.Read x r t i h q) = x ∷ []
 bound_at (b.Alloc x ts) = x ∷ []
 bound_at (b.Call x f ts us g) = x ∷ []
 bound_at (b.Do x r ns body box) = x ∷ []
+bound_at (b.Atomic x r ns body box) = x ∷ []
+bound_at (b.Par x r y z ns left box ms right last) = x ∷ y ∷ []
 bound_at _ = []
 
 abbrev pub bound_by : StmtKind → Names

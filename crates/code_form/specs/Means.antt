@@ -3,8 +3,7 @@ use Rattle.std.specs.Prelude.{◌≡◌, ℕ, zero, suc, List, [], ◌∷◌, �
 use Rattle.tht_tree.specs.declared.plain.Value.{Value}
 use Rattle.tht_tree.specs.Syntax.{Names}
 use Rattle.tht_tree.specs.Values.{bool_in, place_in}
-use Rattle.tht_logic.specs.Machine.{Cmd, TermBig, Read, Write, Alloc, Free, Call, Prog, Ended, FrontBig, Plain}
-use Rattle.code_form.specs.declared.expr.Expr.{Expr}
+use Rattle.tht_logic.specs.Machine.{Cmd, TermBig, Read, Write, Alloc, Free, Publish, Retract, Call, Prog, Ended, FrontBig, Plain, Block, Fork}
 use Rattle.code_form.specs.declared.code.Node.{Node}
 use Rattle.code_form.specs.declared.code.Node.TheVariants as node
 use Rattle.code_form.specs.declared.code.Proc.{Proc}
@@ -55,7 +54,11 @@ means_at names go (node.Read s e next) env = Plain (or_cmd (eval_of e env) (λ v
 means_at names go (node.Write e f next) env = Plain (or_cmd (eval_of e env) (λ v. or_cmd (eval_of f env) (Write (place_in v)))) (λ v. go next env)
 means_at names go (node.Alloc es next) env = Plain (or_cmds (all_of env es) Alloc) (λ v. go next (env ++ v ∷ []))
 means_at names go (node.Free e next) env = Plain (or_cmd (eval_of e env) (λ v. Free (place_in v))) (λ v. go next env)
+means_at names go (node.Publish e next) env = Plain (or_cmd (eval_of e env) (λ v. Publish (place_in v))) (λ v. go next env)
+means_at names go (node.Retract e next) env = Plain (or_cmd (eval_of e env) (λ v. Retract (place_in v))) (λ v. go next env)
 means_at names go (node.Call f es next) env = calling (slice_get names f) (all_of env es) (λ v. go next (env ++ v ∷ []))
+means_at names go (node.Atomic p next) env = Block (go p env) (λ v. go next (env ++ v ∷ []))
+means_at names go (node.Fork p q next) env = Fork (go p env) (go q env) (λ v w. go next (env ++ v ∷ w ∷ []))
 
 -- the meaning of a node by its number; a number that is not there is too big
 abbrev pub pick : List Means → ℕ → Means

@@ -4,13 +4,15 @@ use Rattle.tht_tree.specs.declared.plain.Value.{Value}
 use Rattle.tht_tree.specs.Values.{unit_value}
 use Rattle.code_form.specs.declared.expr.Expr.{Expr}
 use Rattle.code_form.specs.Eval.{eval_of}
-use Rattle.tht_logic.specs.Machine.{Prog, Ended, FrontBig, and_then}
+use Rattle.tht_logic.specs.Machine.{Prog, FrontBig, and_then}
 use Rattle.code_form.specs.declared.code.Node.{Node}
 use Rattle.code_form.specs.Means.{Means}
 use Rattle.code_form.specs.Turns.{plain_at}
 use Rattle.code_form.specs.declared.frames.Frame.{Frame}
 use Rattle.code_form.specs.declared.frames.Front.{Front}
 use Rattle.code_form.specs.declared.frames.Front.TheVariants as front
+use Rattle.code_form.specs.declared.frames.Bound.{Bound}
+use Rattle.code_form.specs.declared.frames.Bound.TheVariants.{Nothing, One, Two}
 
 -- each frame's values begin where those that it goes on with begin or later, and end before those of the next one
 abbrev pub Chain : ℕ → List Frame → ℕ → Type 0
@@ -42,6 +44,12 @@ IsPlainFront nodes _ = Unit {0}
 abbrev pub value_or_unit : Option Value → Value
 value_or_unit None = unit_value
 value_or_unit (Some v) = v
+
+-- the values that a statement binds
+abbrev pub values_in : Bound → List Value
+values_in Nothing = []
+values_in (One w) = w ∷ []
+values_in (Two w u) = w ∷ u ∷ []
 
 -- the values of a call's arguments
 abbrev pub arguments_of : List Value → List Expr → List Value

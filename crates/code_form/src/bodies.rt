@@ -1,9 +1,9 @@
 // The nodes of statements, ends and bodies.
 ghost use Rattle.std.specs.Prelude.{◌≡◌, ◌++◌, [], ◌∷◌, ℕ, List, map, reverse, unwrap_or, length, IfOk, OnOk};
 ghost use Rattle.tht_tree.specs.Syntax.{Names, trm};
-ghost use Rattle.tht_logic.specs.Programs.{test, code, end_code, stmt_kind_code};
+ghost use Rattle.tht_tree.specs.declared.plain.Sort.{Sort as SortOf};
+ghost use Rattle.tht_logic.specs.Programs.{test, atomic, par, code, end_code, stmt_kind_code};
 ghost use Rattle.code_form.specs.Lowering.{expr_of, number_in, end_node, Emitted, Lowered, StmtLowered, StmtsLowered, Bound, Unbound, bound_by, bound_in};
-ghost use Rattle.tht_tree.specs.declared.plain.Value.TheVariants as value;
 
 use crate::code::Node;
 use crate::expr::Expr;
@@ -13,7 +13,7 @@ use crate::values::Row;
 use sqlite_items::Items;
 use std::alloc::Global;
 use tht_tree::body::{Body, Cells, End, EndKind, Stmt, StmtKind};
-use tht_tree::plain::{Memory, Name, Sort, Value};
+use tht_tree::plain::{Memory, Name, Sort};
 use tht_tree::term::Term;
 
 /// What follows the value of a body: its caller, or, for an inner body, outside of which so many variables are bound, the node
@@ -97,11 +97,18 @@ fn emit_call(
     emit(Node::Call(callee, arguments, next), work)
 }
 
-// A statement that is not built yet frees what is no cell.
-fn emit_fault(next: usize, work: &mut Work) -> Result<usize, Memory>
-    ensures { IfOk result (λ i. Emitted work.old work.new (Node.Free (Expr.Lit value.Unit) next) i) }
+fn emit_publish(alloc: Global, place: &Term, next: usize, work: &mut Work) -> Result<usize, Memory>
+    ensures { IfOk result (λ i. Emitted work.old work.new (Node.Publish (expr_of (reverse work.old.bound) place.now) next) i) }
 {
-    emit(Node::Free(Expr::Lit(Value::Unit), next), work)
+    let place = lower_term(alloc, place, work.bound.as_slice())?;
+    emit(Node::Publish(place, next), work)
+}
+
+fn emit_retract(alloc: Global, place: &Term, next: usize, work: &mut Work) -> Result<usize, Memory>
+    ensures { IfOk result (λ i. Emitted work.old work.new (Node.Retract (expr_of (reverse work.old.bound) place.now) next) i) }
+{
+    let place = lower_term(alloc, place, work.bound.as_slice())?;
+    emit(Node::Retract(place, next), work)
 }
 
 fn end_with(value: Expr, behind: Behind, bound: &[Name]) -> Node
@@ -144,6 +151,13 @@ fn bind_name(name: &Name, work: &mut Work) -> Result<(), Memory>
     Ok(())
 }
 
+fn bind_two(outer: &Name, inner: &Name, work: &mut Work) -> Result<(), Memory>
+    ensures { OnOk result (Bound work.old work.new (outer.now ∷ inner.now ∷ [])) }
+{
+    bind_name(outer, work)?;
+    bind_name(inner, work)
+}
+
 // Binds what a statement binds.
 fn bind(kind: &StmtKind, work: &mut Work) -> Result<(), Memory>
     ensures { OnOk result (Bound work.old work.new (bound_by kind.now)) }
@@ -153,6 +167,8 @@ fn bind(kind: &StmtKind, work: &mut Work) -> Result<(), Memory>
         StmtKind::Alloc(x, _) => bind_name(x, work),
         StmtKind::Call(x, _, _, _, _) => bind_name(x, work),
         StmtKind::Do(x, _, _, _, _) => bind_name(x, work),
+        StmtKind::Atomic(x, _, _, _, _) => bind_name(x, work),
+        StmtKind::Par(x, _, y, _, _, _, _, _, _, _) => bind_two(x, y, work),
         _ => Ok(()),
     }
 }
@@ -175,6 +191,8 @@ fn unbind(kind: &StmtKind, work: &mut Work)
         StmtKind::Alloc(_, _) => unbind_name(work),
         StmtKind::Call(_, _, _, _, _) => unbind_name(work),
         StmtKind::Do(_, _, _, _, _) => unbind_name(work),
+        StmtKind::Atomic(_, _, _, _, _) => unbind_name(work),
+        StmtKind::Par(_, _, _, _, _, _, _, _, _, _) => unbind_two(work),
         _ => {}
     }
 }
@@ -183,6 +201,13 @@ fn unbind_name(work: &mut Work)
     ensures { (names : Names) (x : List ℕ) → work.old.bound ≡ names ++ x ∷ [] → Unbound work.old work.new names }
 {
     let _ = work.bound.pop();
+}
+
+fn unbind_two(work: &mut Work)
+    ensures { (names : Names) (x y : List ℕ) → work.old.bound ≡ names ++ x ∷ y ∷ [] → Unbound work.old work.new names }
+{
+    unbind_name(work);
+    unbind_name(work);
 }
 
 // ---- bodies
@@ -245,10 +270,12 @@ fn lower_stmt(alloc: Global, kind: &StmtKind, next: usize, work: &mut Work) -> R
         ),
         StmtKind::Do(_, _, _, body, _) => lower_inner(alloc, body.get(), next, work),
         StmtKind::Proof(_) => Ok(next),
-        StmtKind::Publish(_, _, _) => emit_fault(next, work),
-        StmtKind::Retract(_, _, _) => emit_fault(next, work),
-        StmtKind::Atomic(_, _, _, _, _) => emit_fault(next, work),
-        StmtKind::Par(_, _, _, _, _, _, _, _, _, _) => emit_fault(next, work),
+        StmtKind::Publish(place, _, _) => emit_publish(alloc, place.get(), next, work),
+        StmtKind::Retract(place, _, _) => emit_retract(alloc, place.get(), next, work),
+        StmtKind::Atomic(_, _, _, body, _) => lower_atomic(alloc, body.get(), next, work),
+        StmtKind::Par(_, _, _, _, _, left, _, _, right, _) => {
+            lower_par(alloc, left.get(), right.get(), next, work)
+        }
     }
 }
 
@@ -259,6 +286,31 @@ fn lower_inner(alloc: Global, body: &Body, next: usize, work: &mut Work) -> Resu
 {
     let keep = work.bound.len();
     lower_body(alloc, body, Behind::Inside(keep, next), work)
+}
+
+// The nodes of an atomic block, whose body ends as one of a call does.
+#[cycle(body)]
+fn lower_atomic(alloc: Global, body: &Body, next: usize, work: &mut Work) -> Result<usize, Memory>
+    ensures { IfOk result (λ i. (x : List ℕ) (sort : SortOf) → StmtLowered work.old work.new (x ∷ []) next (λ rest xs. atomic sort (code [] body.now xs) (rest (x ∷ xs))) i) }
+{
+    let first = lower_body(alloc, body, Behind::Caller, work)?;
+    emit(Node::Atomic(first, next), work)
+}
+
+// The nodes of a fork, whose bodies end as one of a call does.
+#[cycle(body)]
+fn lower_par(
+    alloc: Global,
+    left: &Body,
+    right: &Body,
+    next: usize,
+    work: &mut Work,
+) -> Result<usize, Memory>
+    ensures { IfOk result (λ i. (x y : List ℕ) (sort other : SortOf) → StmtLowered work.old work.new (x ∷ y ∷ []) next (λ rest xs. par sort other (code [] left.now xs) (code [] right.now xs) (rest (y ∷ x ∷ xs))) i) }
+{
+    let one = lower_body(alloc, left, Behind::Caller, work)?;
+    let other = lower_body(alloc, right, Behind::Caller, work)?;
+    emit(Node::Fork(one, other, next), work)
 }
 
 #[cycle(body)]

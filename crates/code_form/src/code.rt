@@ -19,8 +19,14 @@ pub enum Node {
     Write(Expr, Expr, usize),
     Alloc(Row, usize),
     Free(Expr, usize),
+    Publish(Expr, usize),
+    Retract(Expr, usize),
     /// A call of the body with this number.
     Call(usize, Items<Expr>, usize),
+    /// An atomic block: the node that its body begins with, which ends as one of a call does, and the node behind the block.
+    Atomic(usize, usize),
+    /// A fork: the nodes that its two bodies begin with, and the node behind the join.
+    Fork(usize, usize, usize),
 }
 
 /// The body of a proc: its name, and the node that it begins with.

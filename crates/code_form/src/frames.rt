@@ -1,10 +1,10 @@
 // The frames of the calls that are under way, over one stack of values.
-ghost use Rattle.std.specs.Prelude.{◌≡◌, ◌+◌, ◌≤◌, ◌<◌, drop, take, length, List, [], ◌∷◌, ◌++◌, vec_len, vec_capacity, IfOk, OnErr, option_to_list};
+ghost use Rattle.std.specs.Prelude.{◌≡◌, ◌+◌, ◌≤◌, ◌<◌, drop, take, length, List, [], ◌∷◌, ◌++◌, vec_len, vec_capacity, IfOk, OnErr};
 ghost use Rattle.tht_logic.specs.Machine.{Ended, and_then};
 ghost use Rattle.tht_tree.specs.declared.plain.Value.{Value as ValueOf};
 ghost use Rattle.code_form.specs.Codes.{means_of};
 ghost use Rattle.code_form.specs.Means.{cut};
-ghost use Rattle.code_form.specs.Stack.{Chain, rests, front_prog, IsAtEnd, IsPlainFront, value_or_unit, arguments_of};
+ghost use Rattle.code_form.specs.Stack.{Chain, rests, front_prog, IsAtEnd, IsPlainFront, value_or_unit, arguments_of, values_in};
 
 use crate::code::Code;
 use crate::eval::eval;
@@ -28,6 +28,14 @@ pub enum Front {
     TooBig,
 }
 
+/// The values that a statement binds.
+#[derive(Clone, Copy, Debug)]
+pub enum Bound {
+    Nothing,
+    One(Value),
+    Two(Value, Value),
+}
+
 #[derive(Clone, Copy, Debug)]
 pub struct Resolved {
     pub front: Front,
@@ -41,32 +49,44 @@ pub fn earlier(code: &Code, next: usize, at: usize) -> usize
     if next < at { next } else { code.nodes.len() }
 }
 
-// Binds a value, or none.
-fn bind(bound: Option<Value>, values: &mut Vec<Value>)
-    requires { vec_len values.old < vec_capacity values.old }
-    ensures items { values.new.items ≡ values.old.items ++ option_to_list bound }
+// Binds the values.
+fn bind(bound: Bound, values: &mut Vec<Value>)
+    requires { vec_len values.old + 1 < vec_capacity values.old }
+    ensures items { values.new.items ≡ values.old.items ++ values_in bound }
     ensures less { vec_len values.old ≤ vec_len values.new }
-    ensures len { vec_len values.new ≤ vec_len values.old + 1 }
+    ensures len { vec_len values.new ≤ vec_len values.old + 2 }
     ensures capacity { vec_capacity values.new ≡ vec_capacity values.old }
 {
-    if let Some(v) = bound {
-        values.push_reserved(v);
+    match bound {
+        Bound::Nothing => {}
+        Bound::One(v) => values.push_reserved(v),
+        Bound::Two(v, w) => push_two(v, w, values),
     }
 }
 
-/// Goes on at a node after the one numbered `at`, with a value bound or without.
+fn push_two(v: Value, w: Value, values: &mut Vec<Value>)
+    requires { vec_len values.old + 1 < vec_capacity values.old }
+    ensures items { values.new.items ≡ values.old.items ++ v ∷ w ∷ [] }
+    ensures len { vec_len values.new ≡ vec_len values.old + 2 }
+    ensures capacity { vec_capacity values.new ≡ vec_capacity values.old }
+{
+    values.push_reserved(v);
+    values.push_reserved(w);
+}
+
+/// Goes on at a node after the one numbered `at`, with these values bound.
 pub fn go_on(
     code: &Code,
     at: usize,
     next: usize,
-    bound: Option<Value>,
+    bound: Bound,
     base: usize,
     values: &mut Vec<Value>,
     frames: &mut Vec<Frame>,
 ) -> Result<Resolved, AllocError>
     requires chain { Chain 0 frames.old.items base }
     requires within { base ≤ vec_len values.old }
-    ensures same { IfOk result (λ r. front_prog (means_of code.now) r.front (drop r.base values.new.items) (rests (means_of code.now) values.new.items frames.new.items Ended) ≡ and_then (cut at (means_of code.now) next (drop base values.old.items ++ option_to_list bound)) (rests (means_of code.now) values.old.items frames.old.items Ended)) }
+    ensures same { IfOk result (λ r. front_prog (means_of code.now) r.front (drop r.base values.new.items) (rests (means_of code.now) values.new.items frames.new.items Ended) ≡ and_then (cut at (means_of code.now) next (drop base values.old.items ++ values_in bound)) (rests (means_of code.now) values.old.items frames.old.items Ended)) }
     ensures chain { IfOk result (λ r. Chain 0 frames.new.items r.base) }
     ensures within { IfOk result (λ r. r.base ≤ vec_len values.new) }
     ensures end { IfOk result (λ r. IsAtEnd r.front frames.new.items) }
@@ -74,7 +94,7 @@ pub fn go_on(
     ensures values { OnErr result (values.new.items ≡ values.old.items) }
     ensures frames { OnErr result (frames.new.items ≡ frames.old.items) }
 {
-    values.reserve(code.nodes.len() + 2)?;
+    values.reserve(code.nodes.len() + 3)?;
     bind(bound, values);
     let from = earlier(code, next, at);
     Ok(resolve(code, from, base, values, frames))
@@ -200,4 +220,40 @@ pub fn enter(
     push_values(es, base, values);
     frames.push_reserved(Frame { next, base, len });
     Ok(resolve(code, body, len, values, frames))
+}
+
+/// Begins at a node, where the variables have these values, and nothing else is under way.
+pub fn begin(
+    code: &Code,
+    from: usize,
+    env: &[Value],
+    values: &mut Vec<Value>,
+    frames: &mut Vec<Frame>,
+) -> Result<Resolved, AllocError>
+    ensures same { IfOk result (λ r. front_prog (means_of code.now) r.front (drop r.base values.new.items) (rests (means_of code.now) values.new.items frames.new.items Ended) ≡ means_of code.now from env.now) }
+    ensures chain { IfOk result (λ r. Chain 0 frames.new.items r.base) }
+    ensures within { IfOk result (λ r. r.base ≤ vec_len values.new) }
+    ensures end { IfOk result (λ r. IsAtEnd r.front frames.new.items) }
+    ensures plain { IfOk result (λ r. IsPlainFront code.now.nodes r.front) }
+    ensures values { OnErr result (values.new.items ≡ values.old.items) }
+    ensures frames { OnErr result (frames.new.items ≡ frames.old.items) }
+{
+    values.reserve(env.len() + code.nodes.len() + 1)?;
+    frames.clear();
+    replace_values(env, values);
+    Ok(resolve(code, from, 0, values, frames))
+}
+
+// These values in place of the others.
+fn replace_values(env: &[Value], values: &mut Vec<Value>)
+    requires room { length env.now ≤ vec_capacity values.old }
+    ensures items { values.new.items ≡ env.now }
+    ensures len { vec_len values.new ≡ length env.now }
+    ensures capacity { vec_capacity values.old ≤ vec_capacity values.new }
+{
+    values.clear();
+    match values.extend_from_slice(env) {
+        Ok(()) => {}
+        Err(_failed) => unreachable!(),
+    }
 }

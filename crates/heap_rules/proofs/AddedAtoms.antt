@@ -2,7 +2,7 @@
 use Rattle.std.proofs.Common.{◌≡◌, ◌≢◌, ℕ, ◌≤◌, cond, [], ◌∷◌, Option, Some, None, Result, Ok, Err, OnOk, refl, sym, ◌∙◌, ap, arith}
 use Rattle.std.proofs.lemmas.List.Elements.{All-head, All-tail}
 use Rattle.std.specs.Ordering.{is_eq}
-use Rattle.std.specs.Prelude.{All, IsSome}
+use Rattle.std.specs.Prelude.{All, IsSome, OnErr}
 use Rattle.tht_tree.specs.declared.assn.Assn.{Assn}
 use Rattle.tht_tree.specs.declared.assn.Assn.TheVariants as a
 use Rattle.tht_tree.specs.Rules.Context.{Context, atom_at}
@@ -47,3 +47,7 @@ number_of n i es h there = pick (atom_at i es) refl there
 pub if_ok : {T E : Type 0} (r : Result T E) (P Q : Type 0) → (P → Q) → OnOk r P → OnOk r Q
 if_ok (Ok x) P Q f h = f h
 if_ok (Err e) P Q f h = tt
+
+pub if_err : {T E : Type 0} (r : Result T E) (P Q : Type 0) → (P → Q) → OnErr r P → OnErr r Q
+if_err (Ok x) P Q f h = tt
+if_err (Err e) P Q f h = f h

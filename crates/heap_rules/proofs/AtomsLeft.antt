@@ -14,7 +14,8 @@ use Rattle.tht_logic.specs.Rules.Gives.{Atoms}
 use Rattle.assn_laws.proofs.AtomLists.{ascends_from}
 use Rattle.pure_proofs.proofs.Atoms.{none_above}
 use Rattle.heap_rules.specs.declared.consumed.Consumed.{Consumed}
-use Rattle.heap_rules.specs.ConsumedAtoms.{left_of, without_each, atoms_nodes, IsNew, IsNext, IsCounted, left_in}
+use Rattle.heap_rules.specs.ConsumedAtoms.{left_of, without_each, atoms_nodes, IsNew, IsNext, IsCounted, less_each, older_left_in}
+use Rattle.heap_rules.specs.Changes.{less_older}
 use Rattle.heap_rules.proofs.AtHand.{none_left, gone, still_there, each_more, size_without}
 
 pub none_made : (s : Consumed) (made i : ℕ) (es : Atoms) → All (λ a. a.0 ≤ made) es → made < i → atom_at i (left_of s es) ≡ None
@@ -63,24 +64,18 @@ counted_same s t es e f counted = plus (ap (λ is. atoms_nodes (without_each is 
 pub atoms_in_range : (c : Context) (n : ℕ) → n ≡ context_nodes c → n < 2 ^ 64 → atoms_nodes c.atoms < 2 ^ 64
 atoms_in_range c n e l = omega (arith, e, l)
 
--- ---- taken out of a state
-
-module _ (c : Context) (i : ℕ) (x : Assn) (at : atom_at i c.atoms ≡ Some x) where
-  pub left_size : (n k : ℕ) → n ≡ context_nodes c → n < 2 ^ 64 → k ≡ min (assn_nodes x) (2 ^ 64 - 1) → (k ≤ n) × (n - k ≡ context_nodes (record c { atoms = without_atom i c.atoms }))
-  left_size n k counted range size = let e = size_without i c.atoms x at in (omega (arith, e, counted, range, size), omega (arith, e, counted, range, size))
-
 -- ---- one after another
 
-pub popped : (i : ℕ) (is js : List ℕ) (c d w : Context) → js ≡ i ∷ is → d ≡ record c { atoms = without_atom i c.atoms } → left_in js c ≡ w → left_in is d ≡ w
-popped i is js c d w e f left = ap (left_in is) f ∙ sym (ap (λ ks. left_in ks c) e) ∙ left
+pub popped : (n i : ℕ) (is js : List ℕ) (c d w : Context) → js ≡ i ∷ is → d ≡ less_older n i c → less_each n js c ≡ w → less_each n is d ≡ w
+popped n i is js c d w e f left = ap (less_each n is) f ∙ sym (ap (λ ks. less_each n ks c) e) ∙ left
 
 pub no_keys : (is : List ℕ) → (0 < length is → ⊥) → is ≡ []
 no_keys [] h = refl
 no_keys (i ∷ is) h = absurd (h (omega arith))
 
-pub all_popped : (js : List ℕ) (c w : Context) → js ≡ [] → left_in js c ≡ w → c ≡ w
-all_popped js c w e left = sym (ap (λ ks. left_in ks c) e) ∙ left
+pub all_popped : (n : ℕ) (js : List ℕ) (c w : Context) → js ≡ [] → less_each n js c ≡ w → c ≡ w
+all_popped n js c w e left = sym (ap (λ ks. less_each n ks c) e) ∙ left
 
-pub left_in_is : (s : Consumed) (c : Context) → left_in s.numbers.keys c ≡ record c { atoms = left_of s c.atoms }
-unfolding left_of
-left_in_is s c = refl
+pub less_each_is : (n : ℕ) (s : Consumed) (c : Context) → less_each n s.numbers.keys c ≡ older_left_in n s c
+unfolding older_left_in
+less_each_is n s c = refl

@@ -7,6 +7,7 @@ pub mod AtomsLeft
 pub mod CellSizes
 pub mod AtomSizes
 pub mod MoreAtoms
+pub mod OlderAtoms
 pub mod Answering
 pub mod AtomParts
 pub mod StepForms

@@ -1,5 +1,5 @@
 -- What is known after a change of it; and what is found in it.
-use Rattle.std.specs.Prelude.{◌≡◌, ℕ, ◌+◌, List, Result, Ok, Err}
+use Rattle.std.specs.Prelude.{◌≡◌, ℕ, ◌+◌, ◌≤◌, nat_le, List, [], ◌∷◌, Result, Ok, Err, if◌then◌else◌}
 use Rattle.std.specs.Borrow.{Bor}
 use Rattle.tht_tree.specs.declared.assn.Assn.{Assn}
 use Rattle.tht_tree.specs.declared.state.Local.{Local}
@@ -11,6 +11,23 @@ use Rattle.heap_rules.specs.Following.{Refuses}
 -- without an atom
 abbrev pub less : ℕ → Context → Context
 less i c = record c { atoms = without_atom i c.atoms }
+
+-- without an atom, if that is one of the first n
+abbrev pub less_older : ℕ → ℕ → Context → Context
+less_older n i c = if nat_le i n then less i c else c
+
+-- the first n atoms alone
+abbrev pub upto : ℕ → List (ℕ × Assn) → List (ℕ × Assn)
+upto n [] = []
+upto n (a ∷ atoms) = if nat_le a.0 n then a ∷ upto n atoms else upto n atoms
+
+abbrev pub older : ℕ → Context → Context
+older n c = record c { atoms = upto n c.atoms; made = n }
+
+-- what was known before is known still, with no atom of a new number
+pub record KeepsOlder (before now : Context) : Type 0 where
+  pub made : before.made ≤ now.made
+  pub same : (n : ℕ) → n ≤ before.made → older n now ≡ older n before
 
 -- with this atom under its number
 abbrev pub changed : ℕ → Assn → Context → Context

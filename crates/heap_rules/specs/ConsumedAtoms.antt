@@ -10,6 +10,7 @@ use Rattle.tht_logic.specs.Rules.Checking.{Checked}
 use Rattle.tht_logic.specs.Rules.Gives.{Atoms}
 use Rattle.pure_proofs.specs.declared.refusal.Refusal.{Refusal}
 use Rattle.heap_rules.specs.declared.consumed.Consumed.{Consumed}
+use Rattle.heap_rules.specs.Changes.{less_older}
 use Rattle.heap_rules.specs.Following.{Refuses}
 
 -- the atoms without those of these numbers
@@ -39,9 +40,14 @@ pub record IsNext (i k : ℕ) (s : Consumed) (atoms : Atoms) : Type 0 where
   pub size : k ≡ min (assn_nodes atom) (2 ^ 64 - 1)
   pub range : atoms_nodes atoms < 2 ^ 64
 
--- what is known without atoms of these numbers
-abbrev pub left_in : List ℕ → Context → Context
-left_in is c = record c { atoms = without_each is c.atoms }
+-- what is known without the atoms of these numbers, as far as they are among the first n
+abbrev pub less_each : ℕ → List ℕ → Context → Context
+less_each n [] c = c
+less_each n (i ∷ is) c = less_each n is (less_older n i c)
+
+-- what is known without those that were consumed, as far as they are among the first n
+unfoldable pub older_left_in : ℕ → Consumed → Context → Context
+older_left_in n s c = less_each n s.numbers.keys c
 
 -- what the rules leave is left, or they refuse
 abbrev pub Leaves : {A : Type 0} → Result A Refusal → Checked Atoms → Atoms → Type 0

@@ -52,6 +52,10 @@ unfolded decl spot p = on_some spot R2 (instance_at (out-Assn p)) (λ z. defined
 abbrev pub replaced_by : Spot → Context → ℕ → Assn → Checked Context
 replaced_by spot c i p = if_fits spot (with_assn p (less i c))
 
+-- the atoms of an assertion for atom i, and a variable called x
+abbrev pub put_named_by : Spot → Context → ℕ → Assn → List ℕ → Sort → Checked Context
+put_named_by spot c i p x r = on_ok (replaced_by spot c i p) (λ k. Ok (named x (Variable r) k))
+
 -- ---- steps
 
 -- a formula is known that was proved
@@ -61,7 +65,7 @@ had spot c h t q = unless_refused (proves spot (prove undeclared q) c t) (if_fit
 -- what an existential says of some value, which is called x from now on
 abbrev pub opened_as_variable : Spot → Context → ℕ → List ℕ → Sort → Checked Context
 opened_as_variable spot c i x r =
-    on_ok (on_ok (atom_found spot c i) (opened spot x r)) (λ p. on_ok (replaced_by spot c i p) (λ k. Ok (named x (Variable r) k)))
+    on_ok (on_ok (atom_found spot c i) (opened spot x r)) (λ p. put_named_by spot c i p x r)
 
 -- the formula of an atom is known under the name h
 abbrev pub opened_as_fact : Spot → Context → ℕ → List ℕ → Checked Context

@@ -4,7 +4,7 @@ ghost use Rattle.std.specs.Option.{option_copied};
 ghost use Rattle.tht_tree.specs.declared.assn.Assn.{Assn};
 ghost use Rattle.tht_tree.specs.Rules.Context.{context_of, context_nodes, context_fits, atom_at, with_atom, without_atom};
 ghost use Rattle.tht_tree.specs.Rules.Sizes.{assn_nodes};
-ghost use Rattle.heap_rules.specs.Changes.{less, changed, Finds};
+ghost use Rattle.heap_rules.specs.Changes.{less, less_older, older, changed, Finds};
 ghost use Rattle.heap_rules.specs.Following.{IsAscending};
 ghost use Rattle.heap_rules.specs.Stages.{atom_found};
 
@@ -50,6 +50,28 @@ pub fn take_atom(known: &mut Known, number: u64) -> Option<Assn>
     let atom = remove(&mut known.state.atoms, known.state.made, number);
     known.nodes -= size_of(&atom);
     atom
+}
+
+/// Takes the atom with this number away, if it is one of the first `made`.
+pub(crate) fn take_older(known: &mut Known, made: u32, number: u64)
+    ensures { context_of known.new.state ≡ less_older made number (context_of known.old.state) }
+{
+    if number <= u64::from(made) {
+        forget(take_atom(known, number));
+    }
+}
+
+/// Takes the atoms with numbers above this one away: the next atom takes the number behind it.
+pub(crate) fn take_back(known: &mut Known, made: u32)
+    ensures { context_of known.new.state ≡ older made (context_of known.old.state) }
+{
+    let mut last = known.state.made;
+    while last > made {
+        ascend(&known.state);
+        forget(take_atom(known, u64::from(last)));
+        last -= 1;
+    }
+    known.state.made = made;
 }
 
 // Takes the atom with this number away, where none has a number above those made.

@@ -3,13 +3,13 @@ ghost use Rattle.std.specs.Prelude.{◌≡◌, ◌<◌, ◌^◌, None, Some, OnO
 ghost use Rattle.tht_tree.specs.Rules.Context.{context_of, atom_at, without_atom};
 ghost use Rattle.tht_logic.specs.Rules.Gives.{Atoms as AtomList};
 ghost use Rattle.pure_proofs.specs.Said.{known_in};
-ghost use Rattle.heap_rules.specs.ConsumedAtoms.{left_of, IsNew, IsNext, IsCounted};
+ghost use Rattle.heap_rules.specs.ConsumedAtoms.{left_of, older_left_in, IsNew, IsNext, IsCounted};
 
-use crate::atoms::ascend;
+use crate::atoms::{ascend, take_older};
 use pure_proofs::{Known, Refusal};
 use std::alloc::Global;
 use std::collections::BTreeSet;
-use tht_tree::assn::{Assn, assn_size};
+use tht_tree::assn::Assn;
 
 /// The atoms that a give has consumed so far: their numbers, and how many nodes they have. The state still has them.
 #[derive(Drop)]
@@ -62,22 +62,13 @@ impl Consumed {
         Ok(())
     }
 
-    /// Takes the atoms out of the state.
-    pub(crate) fn take_out(self, known: &mut Known)
-        ensures { context_of known.new.state ≡ record (context_of known.old.state) { atoms = left_of self (context_of known.old.state).atoms } }
+    /// Takes the atoms out of the state, as far as they are among the first `made`.
+    pub(crate) fn take_out(self, known: &mut Known, made: u32)
+        ensures { context_of known.new.state ≡ older_left_in made self (context_of known.old.state) }
     {
         let mut numbers = self.numbers;
         while let Some(number) = numbers.pop_first() {
-            take_atom(known, number);
+            take_older(known, made, u64::from(number));
         }
-    }
-}
-
-// Takes an atom out of the state, if it is there.
-fn take_atom(known: &mut Known, number: u32)
-    ensures { context_of known.new.state ≡ record (context_of known.old.state) { atoms = without_atom number (context_of known.old.state).atoms } }
-{
-    if let Some(atom) = known.state.atoms.remove(&number) {
-        known.nodes -= assn_size(&atom);
     }
 }

@@ -1,5 +1,5 @@
 // The step that folds: an instance for the atoms that its definition consumes.
-ghost use Rattle.std.specs.Prelude.{◌≡◌, IfOk, IfErr};
+ghost use Rattle.std.specs.Prelude.{◌≡◌, IfOk, IfErr, OnErr};
 ghost use Rattle.tht_tree.specs.declared.assn.Assn.TheVariants.{Inst};
 ghost use Rattle.tht_tree.specs.Rules.Context.{context_of};
 ghost use Rattle.heap_rules.specs.ConsumedAtoms.{Consumes, IsCounted, left_of};
@@ -39,7 +39,8 @@ pub(crate) fn fold(
     instance: Instance<'_>,
     give: &Give,
 ) -> Result<(), Refusal>
-    ensures { Follows result (instance_folded (declared_by predicates.now) instance.entry.spot (context_of known.old.state) instance.entry.name.now instance.entry.arguments.now give.now) (context_of known.old.state) (context_of known.new.state) }
+    ensures follows { Follows result (instance_folded (declared_by predicates.now) instance.entry.spot (context_of known.old.state) instance.entry.name.now instance.entry.arguments.now give.now) (context_of known.old.state) (context_of known.new.state) }
+    ensures err { OnErr result (context_of known.new.state ≡ context_of known.old.state) }
 {
     let consumed = consumed_by(alloc, known, predicates, instance, give)?;
     put_instance(alloc, known, instance, consumed)
@@ -76,7 +77,8 @@ fn put_instance(
     consumed: Consumed,
 ) -> Result<(), Refusal>
     requires { IsCounted consumed (context_of known.old.state).atoms }
-    ensures { Follows result (put_for instance.entry.spot (left_of consumed (context_of known.old.state).atoms) (context_of known.old.state) (Inst instance.entry.name.now instance.entry.arguments.now)) (context_of known.old.state) (context_of known.new.state) }
+    ensures follows { Follows result (put_for instance.entry.spot (left_of consumed (context_of known.old.state).atoms) (context_of known.old.state) (Inst instance.entry.name.now instance.entry.arguments.now)) (context_of known.old.state) (context_of known.new.state) }
+    ensures err { OnErr result (context_of known.new.state ≡ context_of known.old.state) }
 {
     let atom = instance_atom(alloc, instance)?;
     if !assn_fits(&atom) {
@@ -85,8 +87,10 @@ fn put_instance(
     if !has_room(known.nodes - consumed.nodes, known.state.made, &atom) {
         return Err(refused(instance.spot, RuleCode::R10));
     }
-    consumed.take_out(known);
-    add_atoms(atom, known)
+    let made = known.state.made;
+    add_atoms(atom, known)?;
+    consumed.take_out(known, made);
+    Ok(())
 }
 
 // The instance as an atom.

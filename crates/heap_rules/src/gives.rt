@@ -1,5 +1,5 @@
 // Gives: which atoms they consume.
-ghost use Rattle.std.specs.Prelude.{◌≡◌, ◌∷◌, [], Ok, IfOk};
+ghost use Rattle.std.specs.Prelude.{◌≡◌, ◌∷◌, [], Ok, IfOk, OnErr};
 ghost use Rattle.tht_tree.specs.declared.assn.Assn.{out-Assn};
 ghost use Rattle.tht_tree.specs.declared.rule.RuleCode.TheVariants.{R1, R4};
 ghost use Rattle.tht_tree.specs.Rules.Context.{context_of, atom_at, without_atom};
@@ -40,11 +40,13 @@ pub(crate) fn consume_given(
     give: &Give,
     goal: &Assn,
 ) -> Result<(), Refusal>
-    ensures { Follows result (after_give (declared_by predicates.now) (context_of known.old.state) give.now goal.now) (context_of known.old.state) (context_of known.new.state) }
+    ensures follows { Follows result (after_give (declared_by predicates.now) (context_of known.old.state) give.now goal.now) (context_of known.old.state) (context_of known.new.state) }
+    ensures err { OnErr result (context_of known.new.state ≡ context_of known.old.state) }
 {
     match check_give(alloc, known, predicates, give, goal) {
         Ok(consumed) => {
-            consumed.take_out(known);
+            let made = known.state.made;
+            consumed.take_out(known, made);
             Ok(())
         }
         Err(refusal) => Err(refusal),

@@ -19,9 +19,9 @@ mod sizes;
 mod steps;
 mod taking;
 
-pub use added::{add_atom, add_atoms, has_room, replace_atom};
+pub use added::{add_atoms, has_room, replace_atom};
 pub use atoms::{ascend, find_atom, forget, nodes_with, nodes_without, set_atom, take_atom};
-pub use names::{assume, bind};
+pub use names::bind;
 pub use places::Predicates;
 pub use refusals::{put_within, refused};
 pub use shapes::{Sides, as_disjunction};

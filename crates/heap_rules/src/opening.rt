@@ -1,5 +1,5 @@
 // Steps that put what an atom says in its place: they open an existential or a fact, or unfold an instance.
-ghost use Rattle.std.specs.Prelude.{◌≡◌, ◌<◌, ◌^◌, ◌∷◌, [], ℕ, List, IfOk, IfErr};
+ghost use Rattle.std.specs.Prelude.{◌≡◌, ◌<◌, ◌^◌, ◌∷◌, [], ℕ, List, IfOk, IfErr, OnErr};
 ghost use Rattle.tht_tree.specs.declared.term.Term.TheVariants.{Var};
 ghost use Rattle.tht_tree.specs.Rules.Context.{Context, context_of, context_nodes};
 ghost use Rattle.tht_tree.specs.Rules.Known.{hyp_fits};
@@ -12,11 +12,11 @@ ghost use Rattle.pure_proofs.specs.Verdicts.{IsVerdict};
 ghost use Rattle.heap_rules.specs.Changes.{Finds};
 ghost use Rattle.heap_rules.specs.Declarations.{declared_by};
 ghost use Rattle.heap_rules.specs.Following.{Makes, Follows};
-ghost use Rattle.heap_rules.specs.Stages.{atom_found, formula_of, opened, unfolded, opened_as_variable, opened_as_fact, instance_unfolded};
+ghost use Rattle.heap_rules.specs.Stages.{atom_found, formula_of, opened, unfolded, opened_as_variable, opened_as_fact, put_named_by, instance_unfolded};
 
-use crate::added::replace_atom;
-use crate::atoms::{find_atom, forget, nodes_without, take_atom};
-use crate::names::{assume, bind};
+use crate::added::{add_atoms, has_room, replace_atom};
+use crate::atoms::{find_atom, forget, nodes_without, take_atom, take_back, take_older};
+use crate::names::bind;
 use crate::places::Predicates;
 use crate::predicates::defined;
 use crate::refusals::{put_within, refused};
@@ -39,12 +39,43 @@ pub(crate) fn open_as_variable(
     name: &Name,
     sort: Sort,
 ) -> Result<(), Refusal>
-    ensures { Follows result (opened_as_variable spot (context_of known.old.state) number name.now sort) (context_of known.old.state) (context_of known.new.state) }
+    ensures follows { Follows result (opened_as_variable spot (context_of known.old.state) number name.now sort) (context_of known.old.state) (context_of known.new.state) }
+    ensures err { OnErr result (context_of known.new.state ≡ context_of known.old.state) }
 {
     let atom = find_atom(known, spot, number)?;
     let body = open(alloc, atom, spot, name, sort)?;
-    replace_atom(known, spot, number, body)?;
-    bind(alloc, known, name, Local::Variable(sort))
+    put_named(alloc, known, spot, number, body, name, sort)
+}
+
+// Puts the atoms of an assertion in the place of the atom with this number, and brings a variable into scope. After an `Err`
+// nothing has changed.
+fn put_named(
+    alloc: Global,
+    known: &mut Known,
+    spot: Spot,
+    number: u64,
+    assn: Assn,
+    name: &Name,
+    sort: Sort,
+) -> Result<(), Refusal>
+    ensures follows { Follows result (put_named_by spot (context_of known.old.state) number assn name.now sort) (context_of known.old.state) (context_of known.new.state) }
+    ensures err { OnErr result (context_of known.new.state ≡ context_of known.old.state) }
+{
+    if !has_room(nodes_without(known, number), known.state.made, &assn) {
+        return Err(refused(spot, RuleCode::R10));
+    }
+    let made = known.state.made;
+    add_atoms(assn, known)?;
+    match bind(alloc, known, name, Local::Variable(sort)) {
+        Ok(()) => {
+            take_older(known, made, number);
+            Ok(())
+        }
+        Err(refusal) => {
+            take_back(known, made);
+            Err(refusal)
+        }
+    }
 }
 
 // What an existential says of the variable with this name.
@@ -102,15 +133,17 @@ pub(crate) fn open_as_fact(
     number: u64,
     name: &Name,
 ) -> Result<(), Refusal>
-    ensures { Follows result (opened_as_fact spot (context_of known.old.state) number name.now) (context_of known.old.state) (context_of known.new.state) }
+    ensures follows { Follows result (opened_as_fact spot (context_of known.old.state) number name.now) (context_of known.old.state) (context_of known.new.state) }
+    ensures err { OnErr result (context_of known.new.state ≡ context_of known.old.state) }
 {
     let formula = fact_at(known, spot, number)?;
     if !hyp_has_room(nodes_without(known, number), formula) {
         return Err(refused(spot, RuleCode::R10));
     }
     let hyp = hypothesis(alloc, name, formula)?;
+    known.add(hyp)?;
     forget(take_atom(known, number));
-    assume(known, spot, hyp)
+    Ok(())
 }
 
 // Whether the formula is not too large as a hypothesis beside what has so many nodes, in a state.
@@ -151,7 +184,8 @@ pub(crate) fn unfold(
     spot: Spot,
     number: u64,
 ) -> Result<(), Refusal>
-    ensures { Follows result (instance_unfolded (declared_by predicates.now) spot (context_of known.old.state) number) (context_of known.old.state) (context_of known.new.state) }
+    ensures follows { Follows result (instance_unfolded (declared_by predicates.now) spot (context_of known.old.state) number) (context_of known.old.state) (context_of known.new.state) }
+    ensures err { OnErr result (context_of known.new.state ≡ context_of known.old.state) }
 {
     let atom = find_atom(known, spot, number)?;
     let definition = definition_of(alloc, atom, predicates, spot)?;

@@ -1,5 +1,5 @@
 // The step that rewrites a part of an atom.
-ghost use Rattle.std.specs.Prelude.{◌≡◌, [], Some, IfOk, IfErr};
+ghost use Rattle.std.specs.Prelude.{◌≡◌, [], Some, IfOk, IfErr, OnErr};
 ghost use Rattle.tht_tree.specs.declared.assn.Assn.{out-Assn};
 ghost use Rattle.tht_tree.specs.declared.plain.Sort.TheVariants.{Bool};
 ghost use Rattle.tht_tree.specs.declared.term.Term.TheVariants.{Eq};
@@ -42,7 +42,8 @@ pub(crate) fn rewrite(
     step: Rewriting<'_>,
     proof: &Proof,
 ) -> Result<(), Refusal>
-    ensures { Follows result (unless_refused (not_equal step.entry.spot (context_of known.old.state) step.entry.number step.entry.part step.entry.term.now proof.now) (part_changed step.entry.spot (context_of known.old.state) step.entry.number step.entry.part step.entry.term.now)) (context_of known.old.state) (context_of known.new.state) }
+    ensures follows { Follows result (unless_refused (not_equal step.entry.spot (context_of known.old.state) step.entry.number step.entry.part step.entry.term.now proof.now) (part_changed step.entry.spot (context_of known.old.state) step.entry.number step.entry.part step.entry.term.now)) (context_of known.old.state) (context_of known.new.state) }
+    ensures err { OnErr result (context_of known.new.state ≡ context_of known.old.state) }
 {
     prove_equal(alloc, known, step, proof)?;
     change_part(alloc, known, step)
@@ -115,7 +116,8 @@ fn equal(alloc: Global, a: &Term, b: &Term) -> Result<Term, Refusal>
 
 // Puts the term in the place of the part.
 fn change_part(alloc: Global, known: &mut Known, step: Rewriting<'_>) -> Result<(), Refusal>
-    ensures { Follows result (part_changed step.entry.spot (context_of known.old.state) step.entry.number step.entry.part step.entry.term.now) (context_of known.old.state) (context_of known.new.state) }
+    ensures follows { Follows result (part_changed step.entry.spot (context_of known.old.state) step.entry.number step.entry.part step.entry.term.now) (context_of known.old.state) (context_of known.new.state) }
+    ensures err { OnErr result (context_of known.new.state ≡ context_of known.old.state) }
 {
     let atom = find_atom(known, step.spot, step.number)?;
     let atom = changed_atom(alloc, atom, step)?;

@@ -1,5 +1,5 @@
 // Proof steps.
-ghost use Rattle.std.specs.Prelude.{◌≡◌};
+ghost use Rattle.std.specs.Prelude.{◌≡◌, OnErr};
 ghost use Rattle.tht_tree.specs.Rules.Context.{context_of};
 ghost use Rattle.tht_tree.specs.Rules.Proofs.{prove as said_of, proves};
 ghost use Rattle.tht_logic.specs.Rules.Steps.{after_step, after_step_kind};
@@ -30,7 +30,8 @@ pub(crate) fn change_by(
     predicates: &Predicates<'_>,
     step: &Step,
 ) -> Result<(), Refusal>
-    ensures { Follows result (after_step (declared_by predicates.now) (context_of known.old.state) step.now) (context_of known.old.state) (context_of known.new.state) }
+    ensures follows { Follows result (after_step (declared_by predicates.now) (context_of known.old.state) step.now) (context_of known.old.state) (context_of known.new.state) }
+    ensures err { OnErr result (context_of known.new.state ≡ context_of known.old.state) }
 {
     take_kind(alloc, known, predicates, step.spot, &step.kind)
 }
@@ -44,7 +45,8 @@ fn take_kind(
     spot: Spot,
     step: &StepKind,
 ) -> Result<(), Refusal>
-    ensures { Follows result (after_step_kind (declared_by predicates.now) spot (context_of known.old.state) step.now) (context_of known.old.state) (context_of known.new.state) }
+    ensures follows { Follows result (after_step_kind (declared_by predicates.now) spot (context_of known.old.state) step.now) (context_of known.old.state) (context_of known.new.state) }
+    ensures err { OnErr result (context_of known.new.state ≡ context_of known.old.state) }
 {
     match step {
         Kind::Have(name, formula, proof) => { have(alloc, known, spot, name, formula.get(), proof) }
@@ -83,7 +85,8 @@ fn have(
     formula: &Term,
     proof: &Proof,
 ) -> Result<(), Refusal>
-    ensures { Follows result (had spot (context_of known.old.state) name.now formula.now proof.now) (context_of known.old.state) (context_of known.new.state) }
+    ensures follows { Follows result (had spot (context_of known.old.state) name.now formula.now proof.now) (context_of known.old.state) (context_of known.new.state) }
+    ensures err { OnErr result (context_of known.new.state ≡ context_of known.old.state) }
 {
     prove_fitting(alloc, known, spot, formula, proof)?;
     let hyp = hypothesis(alloc, name, formula)?;

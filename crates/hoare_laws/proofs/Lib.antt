@@ -11,6 +11,7 @@ pub mod EndSound
 pub mod CallSound
 pub mod ParamValues
 pub mod BodySound
+pub mod BuiltBodies
 pub mod BodyLaw
 pub mod FileSound
 pub mod PlainBodies

@@ -1,6 +1,7 @@
--- A body in which the walk over names and sorts refuses nothing is a plain program: the sort of each of its terms is one that a cell can hold, so no part of the term makes a
+-- A body of which all forms are built and in which the walk over names and sorts refuses nothing is a plain program: the sort of each of its terms is one that a cell can hold, so no part of the term makes a
 -- sequence; and each name that it calls is a proc's.
 use Rattle.std.proofs.Common.{◌≡◌, ℕ, Bool, true, ◌&&◌, List, [], ◌∷◌, map, Option, Some, None, refl, sym, ◌∙◌, ap, subst}
+use Rattle.std.specs.List.{list_all}
 use mathlib.Core.Path.{fun_ext}
 use Rattle.tht_tree.specs.declared.assn.Assn.{Assn}
 use Rattle.tht_tree.specs.declared.body.Body.{Body, roll-Body, ind-Body}
@@ -21,25 +22,20 @@ use Rattle.tht_tree.specs.declared.term.Term.{Term, map-Term}
 use Rattle.tht_tree.specs.declared.term.Term.TheOpen.{Term-F}
 use Rattle.tht_tree.specs.declared.term.Term.TheOpen as term
 use Rattle.tht_tree.specs.declared.walk.Class.TheVariants as class
-use Rattle.tht_tree.specs.declared.walk.Where.TheVariants.{Outside, Inside}
-use Rattle.tht_tree.specs.declared.walk.WalkCode.{WalkCode}
-use Rattle.tht_tree.specs.declared.walk.WalkCode.TheVariants.{S4}
-use Rattle.tht_tree.specs.declared.walk.WalkRefusal.{WalkRefusal}
+use Rattle.tht_tree.specs.declared.walk.Where.TheVariants.{Outside}
 use Rattle.tht_tree.specs.Syntax.{Names, position, root_or_free, named, Trm, trm, trm_at}
 use Rattle.tht_tree.specs.Rules.Context.{Scope, with_local}
 use Rattle.tht_tree.specs.Rules.Scoping.{sequence_free, sequence_free_at}
-use Rattle.tht_tree.specs.Walk.Codes.{first, first_of, construct, ◌▸◌}
 use Rattle.tht_tree.specs.Walk.Names as walk
 use Rattle.tht_tree.specs.Walk.Names.{with_result, with_hypothesis, new_name}
-use Rattle.tht_tree.specs.Walk.Terms.{program_of, any_program, any_programs, storable}
-use Rattle.tht_tree.specs.Walk.Proofs.{proof}
+use Rattle.tht_tree.specs.Walk.Terms.{program_of, any_program, any_programs}
 use Rattle.tht_tree.specs.Walk.Steps as steps
 use Rattle.tht_tree.specs.Walk.Bodies as w
 use Rattle.tht_tree.specs.Walk.Bodies.{InBody, Statement, frame, new_result, private_box, place_term, only_inside, only_outside, call_sort}
 use Rattle.tht_tree.proofs.TermInduction.{fold_level, OfParts, by_parts}
 use Rattle.walk_laws.proofs.Levels as walked
 use Rattle.proof_laws.specs.Walked.{Matches}
-use Rattle.proof_laws.proofs.WalkedTerms.{no_walk_code, first_none}
+use Rattle.proof_laws.proofs.WalkedTerms.{no_walk_code}
 use Rattle.tht_logic.specs.PlainPrograms.{no_sequence, no_sequences, is_plain_program}
 use Rattle.tht_logic.specs.Programs as p
 use Rattle.tht_logic.specs.Programs.{Whole, Before}
@@ -48,11 +44,14 @@ use Rattle.assn_laws.specs.Walked.{KnowsProcs, scope_after}
 use Rattle.assn_laws.proofs.FileLaw.{result_matches}
 use Rattle.assn_laws.proofs.KnownNames.{both_true}
 use Rattle.assn_laws.proofs.ProcNames.{procs_with_name, procs_after_step}
-use Rattle.assn_laws.proofs.Refusing.{nothing, construct_none, behind_none, first_of_none, both}
+use Rattle.assn_laws.proofs.Refusing.{nothing, behind_none, first_of_none, both}
 use Rattle.assn_laws.proofs.WalkedCalls.{walked_calls_are_in_order}
 use Rattle.assn_laws.proofs.WalkedNames.{hypothesis_matches}
 use Rattle.assn_laws.proofs.WalkedPrograms.{program_term, any_term}
 use Rattle.assn_laws.proofs.WalkedSteps.{walked_steps_match}
+use Rattle.tht_logic.specs.Built.{body, assn, stmt_at, end_at}
+use Rattle.tht_logic.specs.Built.{proof as proof_built}
+use Rattle.hoare_laws.proofs.BuiltBodies as built
 use Rattle.hoare_laws.proofs.WalkedStmts.{read_walked, write_walked, alloc_walked, free_walked, call_walked, do_walked, ret_walked, if_walked, sides_walked, truth_walked, sequence_walked, dead_walked}
 
 -- ---- terms
@@ -203,46 +202,22 @@ module _ (roots : Names) (procs : List ℕ → Option Head) (known : List ℕ �
         let parts = do_walked spot names r x s ns in_walk box e in
         both (plain (whole xs)) (plain (next (x ∷ xs))) (inner s names xs here parts.1) (goes_on (x ∷ xs) (with_result_at names here x s parts.0.new))
 
-    -- what stands inside alone is refused outside
-    not_outside : (code : Option WalkCode) (inside : Option WalkRefusal) → construct spot (first code (only_inside Outside)) inside ≡ nothing → ⊥
-    not_outside code inside e = let never = (first_none code (Some S4) (construct_none spot (first code (Some S4)) inside e).0).1 in cc
-
-    -- a block that is not built stands for a free, which is plain
-    atomic_plain : (x : List ℕ) (s : Sort) (ns : List ℕ) (whole : Whole) (in_walk : InBody) (box : Assn) → StmtPlain (p.stmt_at roots (b.Atomic x s ns whole box)) (w.statement_at (b.Atomic x s ns in_walk box) spot)
-    atomic_plain x s ns whole in_walk box r names xs here e next goes_on =
-        let boxes = private_box names x s box ∷ only_outside Outside ∷ [] in
-        let tests = construct_none spot (first_of (new_result names x s ∷ boxes)) (in_walk (frame Inside s) names) e in
-        let result = first_none (new_name names x) (storable s) (first_of_none (new_result names x s) boxes tests.0).0 in
-        goes_on xs (with_result_at names here x s result.0)
-
-    par_plain : (x : List ℕ) (s : Sort) (y : List ℕ) (z : Sort) (ns : List ℕ) (whole : Whole) (in_walk : InBody) (box : Assn) (ms : List ℕ) (other : Whole) (in_other : InBody) (last : Assn)
-        → StmtPlain (p.stmt_at roots (b.Par x s y z ns whole box ms other last)) (w.statement_at (b.Par x s y z ns in_walk box ms in_other last) spot)
-    par_plain x s y z ns whole in_walk box ms other in_other last r names xs here e next goes_on =
-        let inner : walk.Scope = with_result names x s in
-        let results = first (new_result names x s) (new_result inner y z) in
-        let boxes = private_box names x s box ∷ private_box names y z last ∷ only_outside Outside ∷ [] in
-        let tests = construct_none spot (first_of (results ∷ boxes)) (in_walk (frame Outside s) names ▸ in_other (frame Outside z) names) e in
-        let new = first_none (new_result names x s) (new_result inner y z) (first_of_none results boxes tests.0).0 in
-        let one = first_none (new_name names x) (storable s) new.0 in
-        let two = first_none (new_name inner y) (storable z) new.1 in
-        goes_on xs (with_result_at inner (with_result_at names here x s one.0) y z two.0)
-
   -- ---- levels
 
   abbrev EndKindPlain : EndKind → Type 0
-  EndKindPlain k = (spot : Spot) → BodyPlain (p.end_kind_code roots k) (w.end_kind k spot)
+  EndKindPlain k = (spot : Spot) → built.end_kind_built k ≡ true → BodyPlain (p.end_kind_code roots k) (w.end_kind k spot)
 
   abbrev StmtKindPlain : StmtKind → Type 0
-  StmtKindPlain k = (spot : Spot) → StmtPlain (p.stmt_kind_code roots k) (w.stmt_kind k spot)
+  StmtKindPlain k = (spot : Spot) → built.stmt_kind_built k ≡ true → StmtPlain (p.stmt_kind_code roots k) (w.stmt_kind k spot)
 
   abbrev WholePlain : Body → Type 0
-  WholePlain x = BodyPlain (p.code roots x) (w.body x)
+  WholePlain x = body x ≡ true → BodyPlain (p.code roots x) (w.body x)
 
   abbrev EndPlain : End → Type 0
-  EndPlain x = BodyPlain (p.end_code roots x) (w.end x)
+  EndPlain x = built.end_built x ≡ true → BodyPlain (p.end_code roots x) (w.end x)
 
   abbrev OnePlain : Stmt → Type 0
-  OnePlain x = StmtPlain (p.stmt_code roots x) (w.stmt x)
+  OnePlain x = built.stmt_built x ≡ true → StmtPlain (p.stmt_code roots x) (w.stmt x)
 
   abbrev Ends : Type 0
   Ends = (k : EndKind) × EndKindPlain k
@@ -260,51 +235,49 @@ module _ (roots : Names) (procs : List ℕ → Option Head) (known : List ℕ �
   Ones = (x : Stmt) × OnePlain x
 
   abbrev StmtLevel : b.StmtKind-F EndKind StmtKind Body End Stmt → Type 0
-  StmtLevel x = (spot : Spot) → StmtPlain (p.stmt_at roots (programs.stmt_level roots x)) (w.statement_at (walked.level x) spot)
+  StmtLevel x = (spot : Spot) → stmt_at (built.stmt_level x) ≡ true → StmtPlain (p.stmt_at roots (programs.stmt_level roots x)) (w.statement_at (walked.level x) spot)
 
   abbrev unpaired_stmt : b.StmtKind-F Ends Kinds Wholes Lasts Ones → b.StmtKind-F EndKind StmtKind Body End Stmt
   unpaired_stmt = map-StmtKind Ends Kinds Wholes Lasts Ones EndKind StmtKind Body End Stmt (λ z. z.0) (λ z. z.0) (λ z. z.0) (λ z. z.0) (λ z. z.0)
 
   stmt_level : (y : b.StmtKind-F Ends Kinds Wholes Lasts Ones) → StmtLevel (unpaired_stmt y)
-  stmt_level (b.Read x s t i h q) spot = read_plain spot x s t i h q
-  stmt_level (b.Write t u i q) spot = write_plain spot t u i q
-  stmt_level (b.Alloc x ts) spot = alloc_plain spot x ts
-  stmt_level (b.Free t i q) spot = free_plain spot t i q
-  stmt_level (b.Publish t i q) spot = λ r names xs here e next goes_on. absurd (not_outside spot (place_term names t) (proof q names) e)
-  stmt_level (b.Retract t i q) spot = λ r names xs here e next goes_on. absurd (not_outside spot (place_term names t) (proof q names) e)
-  stmt_level (b.Call x f ts us g) spot = call_plain spot x f ts us g
-  stmt_level (b.Do x s ns y box) spot = do_plain spot x s ns (p.code roots y.0) (w.body y.0) box y.1
-  stmt_level (b.Atomic x s ns y box) spot = atomic_plain spot x s ns (p.code roots y.0) (w.body y.0) box
-  stmt_level (b.Par x s z r ns y box ms other last) spot = par_plain spot x s z r ns (p.code roots y.0) (w.body y.0) box ms (p.code roots other.0) (w.body other.0) last
-  stmt_level (b.Proof x) spot = λ r names xs here e next goes_on. goes_on xs (after_step_at names here x e)
+  stmt_level (b.Read x s t i h q) spot ok = read_plain spot x s t i h q
+  stmt_level (b.Write t u i q) spot ok = write_plain spot t u i q
+  stmt_level (b.Alloc x ts) spot ok = alloc_plain spot x ts
+  stmt_level (b.Free t i q) spot ok = free_plain spot t i q
+  stmt_level (b.Call x f ts us g) spot ok = call_plain spot x f ts us g
+  stmt_level (b.Do x s ns y box) spot ok = do_plain spot x s ns (p.code roots y.0) (w.body y.0) box (y.1 (both_true (body y.0) (assn box) ok).0)
+  stmt_level (b.Proof x) spot ok = λ r names xs here e next goes_on. goes_on xs (after_step_at names here x e)
+  stmt_level _ spot ok = cc
 
   abbrev walked_end : b.EndKind-F EndKind StmtKind Body End Stmt → b.EndKind-F (Spot → InBody) (Spot → Statement) InBody InBody Statement
   walked_end = map-EndKind EndKind StmtKind Body End Stmt (Spot → InBody) (Spot → Statement) InBody InBody Statement w.end_kind w.stmt_kind w.body w.end w.stmt
 
   abbrev EndLevel : b.EndKind-F EndKind StmtKind Body End Stmt → Type 0
-  EndLevel x = (spot : Spot) → BodyPlain (p.end_at roots (programs.end_level roots x)) (w.end_at (walked_end x) spot)
+  EndLevel x = (spot : Spot) → end_at (built.end_level x) ≡ true → BodyPlain (p.end_at roots (programs.end_level roots x)) (w.end_at (walked_end x) spot)
 
   abbrev unpaired_end : b.EndKind-F Ends Kinds Wholes Lasts Ones → b.EndKind-F EndKind StmtKind Body End Stmt
   unpaired_end = map-EndKind Ends Kinds Wholes Lasts Ones EndKind StmtKind Body End Stmt (λ z. z.0) (λ z. z.0) (λ z. z.0) (λ z. z.0) (λ z. z.0)
 
   -- the program of a `case` is its first body, and that of a `dead` its body
   end_level : (y : b.EndKind-F Ends Kinds Wholes Lasts Ones) → EndLevel (unpaired_end y)
-  end_level (b.Ret t g) spot r names xs here e = plain_of roots xs names here.scope here.matches r t (ret_walked spot names r t g e).value
-  end_level (b.If t h y z) spot r names xs here e =
+  end_level (b.Ret t g) spot ok r names xs here e = plain_of roots xs names here.scope here.matches r t (ret_walked spot names r t g e).value
+  end_level (b.If t h y z) spot ok r names xs here e =
+      let parts_built = both_true (body y.0) (body z.0) ok in
       let parts = if_walked spot names r t h (w.body y.0) (w.body z.0) e in
       let inner = with_hypothesis_at names here h parts.1 in
       let one : Bool = plain (p.code roots y.0 xs) in
       let other : Bool = plain (p.code roots z.0 xs) in
       both (no_sequence (trm roots xs t)) (one && other) (plain_of roots xs names here.scope here.matches sort.Bool t parts.0)
-      (both one other (y.1 r (with_hypothesis names h) xs inner parts.2) (z.1 r (with_hypothesis names h) xs inner parts.3))
-  end_level (b.CaseAtom i y z) spot r names xs here e = y.1 r names xs here (sides_walked spot names r i (w.body y.0) (w.body z.0) e).0
-  end_level (b.CaseBool t h y z) spot r names xs here e =
+      (both one other (y.1 parts_built.0 r (with_hypothesis names h) xs inner parts.2) (z.1 parts_built.1 r (with_hypothesis names h) xs inner parts.3))
+  end_level (b.CaseAtom i y z) spot ok r names xs here e = y.1 (both_true (body y.0) (body z.0) ok).0 r names xs here (sides_walked spot names r i (w.body y.0) (w.body z.0) e).0
+  end_level (b.CaseBool t h y z) spot ok r names xs here e =
       let parts = truth_walked spot names r t h (w.body y.0) (w.body z.0) e in
-      y.1 r (with_hypothesis names h) xs (with_hypothesis_at names here h parts.1) parts.2
-  end_level (b.CaseSeq t h y x s z) spot r names xs here e =
+      y.1 (both_true (body y.0) (body z.0) ok).0 r (with_hypothesis names h) xs (with_hypothesis_at names here h parts.1) parts.2
+  end_level (b.CaseSeq t h y x s z) spot ok r names xs here e =
       let parts = sequence_walked spot names r t h (w.body y.0) x s (w.body z.0) e in
-      y.1 r (with_hypothesis names h) xs (with_hypothesis_at names here h parts.1) parts.3
-  end_level (b.Dead q y) spot r names xs here e = y.1 r names xs here (dead_walked spot names r q (w.body y.0) e).1
+      y.1 (both_true (body y.0) (body z.0) ok).0 r (with_hypothesis names h) xs (with_hypothesis_at names here h parts.1) parts.3
+  end_level (b.Dead q y) spot ok r names xs here e = y.1 (both_true (proof_built q) (body y.0) ok).1 r names xs here (dead_walked spot names r q (w.body y.0) e).1
 
   -- ---- the induction
 
@@ -318,39 +291,42 @@ module _ (roots : Names) (procs : List ℕ → Option Head) (known : List ℕ �
   trees ss = map (λ z. z.0) ss
 
   -- statements one after another, and an end
-  all_plain : (ss : List Ones) (last : Lasts) → BodyPlain (p.in_order (map (p.stmt_code roots) (trees ss)) (p.end_code roots last.0)) (w.statements (map w.stmt (trees ss)) (w.end last.0))
-  all_plain [] last r names xs here e = last.1 r names xs here e
-  all_plain (s ∷ ss) last r names xs here e =
+  all_plain : (ss : List Ones) (last : Lasts) → (list_all (λ z. z) (map built.stmt_built (trees ss)) && built.end_built last.0) ≡ true → BodyPlain (p.in_order (map (p.stmt_code roots) (trees ss)) (p.end_code roots last.0)) (w.statements (map w.stmt (trees ss)) (w.end last.0))
+  all_plain [] last ok r names xs here e = last.1 ok r names xs here e
+  all_plain (s ∷ ss) last ok r names xs here e =
+      let later : Bool = list_all (λ z. z) (map built.stmt_built (trees ss)) in
+      let own = both_true (built.stmt_built s.0 && later) (built.end_built last.0) ok in
+      let front = both_true (built.stmt_built s.0) later own.0 in
       let after = (w.stmt s.0).after names in
       let parts = behind_none ((w.stmt s.0).walk (frame Outside r) names) (w.statements (map w.stmt (trees ss)) (w.end last.0) (frame Outside r) after) e in
-      s.1 r names xs here parts.0 (p.in_order (map (p.stmt_code roots) (trees ss)) (p.end_code roots last.0)) (λ ys there. all_plain ss last r after ys there parts.1)
+      s.1 front.0 r names xs here parts.0 (p.in_order (map (p.stmt_code roots) (trees ss)) (p.end_code roots last.0)) (λ ys there. all_plain ss last (both later (built.end_built last.0) front.1 own.1) r after ys there parts.1)
 
   end_kind_step : (x : b.EndKind-F EndKind StmtKind Body End Stmt) → EndLevel x → EndKindPlain (roll-EndKind x)
-  end_kind_step x h spot =
+  end_kind_step x h spot ok =
       carried_body (p.end_kind_code roots (roll-EndKind x)) (p.end_at roots (programs.end_level roots x)) (w.end_kind (roll-EndKind x) spot) (w.end_at (walked_end x) spot)
-      (programs.end_kind_is roots x) (fun_ext (λ g. fun_ext (λ names. walked.end_kind_is x spot g names))) (h spot)
+      (programs.end_kind_is roots x) (fun_ext (λ g. fun_ext (λ names. walked.end_kind_is x spot g names))) (h spot (sym (built.end_kind_is x) ∙ ok))
 
   stmt_kind_step : (x : b.StmtKind-F EndKind StmtKind Body End Stmt) → StmtLevel x → StmtKindPlain (roll-StmtKind x)
-  stmt_kind_step x h spot =
+  stmt_kind_step x h spot ok =
       carried_stmt (p.stmt_kind_code roots (roll-StmtKind x)) (p.stmt_at roots (programs.stmt_level roots x)) (w.stmt_kind (roll-StmtKind x) spot) (w.statement_at (walked.level x) spot)
-      (programs.stmt_kind_is roots x) (walked.stmt_kind_is x spot) (h spot)
+      (programs.stmt_kind_is roots x) (walked.stmt_kind_is x spot) (h spot (sym (built.stmt_kind_is x) ∙ ok))
 
   end_step : (x : End) → EndKindPlain x.kind → EndPlain x
-  end_step x h =
+  end_step x h ok =
       carried_body (p.end_code roots x) (p.end_kind_code roots x.kind) (w.end x) (w.end_kind x.kind x.spot)
-      (programs.end_is roots x) (fun_ext (λ g. fun_ext (λ names. walked.end_is x.spot x.kind g names))) (h x.spot)
+      (programs.end_is roots x) (fun_ext (λ g. fun_ext (λ names. walked.end_is x.spot x.kind g names))) (h x.spot (sym (built.end_is x) ∙ ok))
 
   stmt_step : (x : Stmt) → StmtKindPlain x.kind → OnePlain x
-  stmt_step x h =
-      carried_stmt (p.stmt_code roots x) (p.stmt_kind_code roots x.kind) (w.stmt x) (w.stmt_kind x.kind x.spot) (programs.stmt_is roots x) (walked.stmt_is x.spot x.kind) (h x.spot)
+  stmt_step x h ok =
+      carried_stmt (p.stmt_code roots x) (p.stmt_kind_code roots x.kind) (w.stmt x) (w.stmt_kind x.kind x.spot) (programs.stmt_is roots x) (walked.stmt_is x.spot x.kind) (h x.spot (sym (built.stmt_is x) ∙ ok))
 
   abbrev BodyLevel : b.Body-F EndKind StmtKind Body End Stmt → Type 0
-  BodyLevel x = BodyPlain (p.in_order (map (p.stmt_code roots) x.stmts) (p.end_code roots x.end)) (w.statements (map w.stmt x.stmts) (w.end x.end))
+  BodyLevel x = (list_all (λ z. z) (map built.stmt_built x.stmts) && built.end_built x.end) ≡ true → BodyPlain (p.in_order (map (p.stmt_code roots) x.stmts) (p.end_code roots x.end)) (w.statements (map w.stmt x.stmts) (w.end x.end))
 
   body_step : (x : b.Body-F EndKind StmtKind Body End Stmt) → BodyLevel x → WholePlain (roll-Body x)
-  body_step x h =
+  body_step x h ok =
       carried_body (p.code roots (roll-Body x)) (p.in_order (map (p.stmt_code roots) x.stmts) (p.end_code roots x.end)) (w.body (roll-Body x)) (w.statements (map w.stmt x.stmts) (w.end x.end))
-      (programs.rolled_code roots x) (fun_ext (λ g. fun_ext (λ names. walked.body_is x.stmts x.end g names))) h
+      (programs.rolled_code roots x) (fun_ext (λ g. fun_ext (λ names. walked.body_is x.stmts x.end g names))) (h (sym (built.rolled_built x) ∙ ok))
 
   -- every body
   pub bodies_plain : (x : Body) → WholePlain x

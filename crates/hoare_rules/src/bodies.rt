@@ -1,5 +1,5 @@
 // The rules of statements, ends and bodies, one inside another.
-ghost use Rattle.std.specs.Prelude.{◌≡◌, ◌≤◌, [], All, Err, None, Some, OnOk};
+ghost use Rattle.std.specs.Prelude.{◌≡◌, ◌≤◌, [], All, Err, None, Some, OnErr, OnOk};
 ghost use Rattle.tht_tree.specs.declared.file.Source1.{Source1};
 ghost use Rattle.tht_tree.specs.declared.rule.RuleCode.TheVariants.{R11};
 ghost use Rattle.tht_tree.specs.declared.rule.RuleRefusal.{RuleRefusal};
@@ -79,7 +79,8 @@ pub fn take_command(
     stmt: &Stmt,
 ) -> Result<(), Refusal>
     requires { All (λ a. a.0 ≤ (context_of state.old).made) (context_of state.old).atoms }
-    ensures { Follows result (after_stmt (declared_by predicates.now) stmt.now (context_of state.old)) (context_of state.old) (context_of state.new) }
+    ensures follows { Follows result (after_stmt (declared_by predicates.now) stmt.now (context_of state.old)) (context_of state.old) (context_of state.new) }
+    ensures kept { OnErr result (context_of state.new ≡ context_of state.old) }
 {
     let next = state_after(alloc, predicates, state, stmt)?;
     forget_state(mem::replace(state, next));

@@ -4,7 +4,7 @@ use Rattle.std.specs.Prelude.{bytes_eq}
 use denote.Enum.Bare.{sameb}
 use Rattle.tht_tree.specs.Syntax.{Op, add, sub, mul, cons, cat, eq, lt, le, conj, disj, imp, Trm, lit, free, bound, len, off, neg, op}
 use Rattle.tht_tree.specs.Rules.Scoping.{same_sort}
-use Rattle.tht_logic.specs.Programs.{Code, ret, test, read, write, alloc, drop, call, nest}
+use Rattle.tht_logic.specs.Programs.{Code, ret, test, read, write, alloc, drop, publish, retract, call, nest, atomic, par}
 use Rattle.tht_logic.specs.Alike.{same_op, same_trm, same_trms}
 use Rattle.tht_logic.specs.SamePrograms.{same_code}
 use Rattle.program_forms.specs.contracts.row.Op.{the_type as the_ops}
@@ -18,6 +18,11 @@ three false b c = refl
 four : (a b c d : Bool) → (a && (b && (c && d))) ≡ (((a && b) && c) && d)
 four true b c d = three b c d
 four false b c d = refl
+
+six : (a b c d e f : Bool) → (a && (b && (c && (d && (e && f))))) ≡ (((((a && b) && c) && d) && e) && f)
+six true true c d e f = four c d e f
+six true false c d e f = refl
+six false b c d e f = refl
 
 alone : (a : Bool) → (a && true) ≡ a
 alone true = refl
@@ -74,12 +79,24 @@ code_rows (alloc ts p) (alloc us q) r s =
     trms_rows ts us (code_row p r) (code_row q s) ∙ ap (λ z. same_trms ts us && z) (code_rows p q r s) ∙ three (same_trms ts us) (same_code p q) (same_row r s)
 code_rows (drop t p) (drop u q) r s =
     trm_rows t u (code_row p r) (code_row q s) ∙ ap (λ z. same_trm t u && z) (code_rows p q r s) ∙ three (same_trm t u) (same_code p q) (same_row r s)
+code_rows (publish t p) (publish u q) r s =
+    trm_rows t u (code_row p r) (code_row q s) ∙ ap (λ z. same_trm t u && z) (code_rows p q r s) ∙ three (same_trm t u) (same_code p q) (same_row r s)
+code_rows (retract t p) (retract u q) r s =
+    trm_rows t u (code_row p r) (code_row q s) ∙ ap (λ z. same_trm t u && z) (code_rows p q r s) ∙ three (same_trm t u) (same_code p q) (same_row r s)
 code_rows (call f ts p) (call g us q) r s =
     ap (λ z. bytes_eq f g && z) (trms_rows ts us (code_row p r) (code_row q s) ∙ ap (λ z. same_trms ts us && z) (code_rows p q r s))
     ∙ four (bytes_eq f g) (same_trms ts us) (same_code p q) (same_row r s)
 code_rows (nest x a p) (nest y b q) r s =
     ap (λ z. same_sort x y && z) (code_rows a b (code_row p r) (code_row q s) ∙ ap (λ z. same_code a b && z) (code_rows p q r s))
     ∙ four (same_sort x y) (same_code a b) (same_code p q) (same_row r s)
+code_rows (atomic x a p) (atomic y b q) r s =
+    ap (λ z. same_sort x y && z) (code_rows a b (code_row p r) (code_row q s) ∙ ap (λ z. same_code a b && z) (code_rows p q r s))
+    ∙ four (same_sort x y) (same_code a b) (same_code p q) (same_row r s)
+code_rows (par w x a c p) (par y z b d q) r s =
+    ap (λ k. same_sort w y && (same_sort x z && k))
+    (code_rows a b (code_row c (code_row p r)) (code_row d (code_row q s))
+    ∙ ap (λ k. same_code a b && k) (code_rows c d (code_row p r) (code_row q s) ∙ ap (λ k. same_code c d && k) (code_rows p q r s)))
+    ∙ six (same_sort w y) (same_sort x z) (same_code a b) (same_code c d) (same_code p q) (same_row r s)
 code_rows _ _ r s = refl
 
 -- two programs are one exactly where their rows are

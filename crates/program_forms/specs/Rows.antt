@@ -1,7 +1,7 @@
 -- A program in a row: its tree from left to right, before these marks. Each form begins with a mark that tells it.
 use Rattle.std.specs.Prelude.{List, [], ◌∷◌}
 use Rattle.tht_tree.specs.Syntax.{Op, add, sub, mul, cons, cat, eq, lt, le, conj, disj, imp, Trm, lit, free, bound, len, off, neg, op}
-use Rattle.tht_logic.specs.Programs.{Code, ret, test, read, write, alloc, drop, call, nest}
+use Rattle.tht_logic.specs.Programs.{Code, ret, test, read, write, alloc, drop, publish, retract, call, nest, atomic, par}
 use Rattle.program_forms.specs.declared.row.Op.{Op as Operation}
 use Rattle.program_forms.specs.declared.row.Op.TheVariants as o
 use Rattle.program_forms.specs.declared.row.Word.TheVariants as w
@@ -44,5 +44,9 @@ code_row (read s t p) r = a_word w.Read ∷ a_sort s ∷ trm_row t (code_row p r
 code_row (write t u p) r = a_word w.Write ∷ trm_row t (trm_row u (code_row p r))
 code_row (alloc ts p) r = a_word w.Alloc ∷ trms_row ts (code_row p r)
 code_row (drop t p) r = a_word w.Free ∷ trm_row t (code_row p r)
+code_row (publish t p) r = a_word w.Publish ∷ trm_row t (code_row p r)
+code_row (retract t p) r = a_word w.Retract ∷ trm_row t (code_row p r)
 code_row (call f ts p) r = a_word w.Call ∷ a_name f ∷ trms_row ts (code_row p r)
 code_row (nest s p q) r = a_word w.Nest ∷ a_sort s ∷ code_row p (code_row q r)
+code_row (atomic s p q) r = a_word w.Atomic ∷ a_sort s ∷ code_row p (code_row q r)
+code_row (par s z p q k) r = a_word w.Par ∷ a_sort s ∷ a_sort z ∷ code_row p (code_row q (code_row k r))

@@ -1,13 +1,13 @@
 // Bodies in a row.
 ghost use Rattle.std.specs.Prelude.{◌≡◌, ◌∷◌, [], List, ℕ, map, OnOk};
-ghost use Rattle.std.specs.Option.{option_copied};
 ghost use Rattle.tht_tree.specs.Syntax.{Names, trm};
 ghost use Rattle.tht_logic.specs.Programs.{code};
 ghost use Rattle.program_forms.specs.declared.row.Word.TheVariants as w;
 ghost use Rattle.program_forms.specs.Marks.{a_word, a_sort, a_name, marks_of};
 ghost use Rattle.program_forms.specs.Names.{names_of};
+ghost use Rattle.program_forms.specs.Outside.{outside};
 ghost use Rattle.program_forms.specs.Rows.{trm_row, trms_row, code_row};
-ghost use Rattle.program_forms.specs.Statements.{bound_name, binds, unbinds, bound_by, not_built, stmt_row, stmts_row, end_row};
+ghost use Rattle.program_forms.specs.Statements.{bound_names, binds, unbinds, bound_by, stmt_row, stmts_row, end_row};
 
 use crate::binders::Binders;
 use crate::row::{Piece, Row, Word};
@@ -45,34 +45,45 @@ fn bind_all(stmts: &[Stmt], binders: &mut Binders) -> Result<(), AllocError>
 }
 
 fn bind(stmt: &StmtKind, binders: &mut Binders) -> Result<(), AllocError>
-    ensures { OnOk result (names_of binders.new ≡ binds (bound_name stmt.now) (names_of binders.old)) }
+    ensures { OnOk result (names_of binders.new ≡ binds (bound_names stmt.now) (names_of binders.old)) }
 {
-    match variable(stmt) {
-        Some(name) => binders.push(name),
-        None => Ok(()),
+    match stmt {
+        StmtKind::Read(x, ..) => binders.push(x),
+        StmtKind::Alloc(x, ..) => binders.push(x),
+        StmtKind::Call(x, ..) => binders.push(x),
+        StmtKind::Do(x, ..) => binders.push(x),
+        StmtKind::Atomic(x, ..) => binders.push(x),
+        StmtKind::Par(x, _, y, ..) => bind_two(x, y, binders),
+        _ => Ok(()),
     }
+}
+
+fn bind_two(outer: &Name, inner: &Name, binders: &mut Binders) -> Result<(), AllocError>
+    ensures { OnOk result (names_of binders.new ≡ inner.now ∷ outer.now ∷ names_of binders.old) }
+{
+    binders.push(outer)?;
+    binders.push(inner)
 }
 
 fn unbind(stmt: &StmtKind, binders: &mut Binders) -> Result<(), AllocError>
-    ensures { OnOk result (names_of binders.new ≡ unbinds (bound_name stmt.now) (names_of binders.old)) }
+    ensures { OnOk result (names_of binders.new ≡ unbinds (bound_names stmt.now) (names_of binders.old)) }
 {
-    match variable(stmt) {
-        Some(_name) => binders.pop(),
-        None => Ok(()),
+    match stmt {
+        StmtKind::Read(..) => binders.pop(),
+        StmtKind::Alloc(..) => binders.pop(),
+        StmtKind::Call(..) => binders.pop(),
+        StmtKind::Do(..) => binders.pop(),
+        StmtKind::Atomic(..) => binders.pop(),
+        StmtKind::Par(..) => unbind_two(binders),
+        _ => Ok(()),
     }
 }
 
-// The variable of the program that a statement binds.
-fn variable(stmt: &StmtKind) -> Option<&Name>
-    ensures { option_copied result ≡ bound_name stmt.now }
+fn unbind_two(binders: &mut Binders) -> Result<(), AllocError>
+    ensures { OnOk result (names_of binders.new ≡ outside (outside (names_of binders.old))) }
 {
-    match stmt {
-        StmtKind::Read(x, ..) => Some(x),
-        StmtKind::Alloc(x, ..) => Some(x),
-        StmtKind::Call(x, ..) => Some(x),
-        StmtKind::Do(x, ..) => Some(x),
-        _ => None,
-    }
+    binders.pop()?;
+    binders.pop()
 }
 
 // Statements before the pieces of what follows them, from the last on. What they bind is bound before, and no more afterwards.
@@ -109,12 +120,18 @@ fn write_stmt<'a>(
         StmtKind::Write(place, value, ..) => write_write(place.get(), value.get(), binders, row),
         StmtKind::Alloc(_, cells) => write_alloc(cells.as_slice(), binders, row),
         StmtKind::Free(place, ..) => write_after(Word::Free, place.get(), binders, row),
-        StmtKind::Publish(..) => write_not_built(row),
-        StmtKind::Retract(..) => write_not_built(row),
+        StmtKind::Publish(place, ..) => write_after(Word::Publish, place.get(), binders, row),
+        StmtKind::Retract(place, ..) => write_after(Word::Retract, place.get(), binders, row),
         StmtKind::Call(_, f, terms, ..) => write_call(f, terms.as_slice(), binders, row),
-        StmtKind::Do(_, sort, _, body, _) => write_do(body.get(), *sort, binders, row),
-        StmtKind::Atomic(..) => write_not_built(row),
-        StmtKind::Par(..) => write_not_built(row),
+        StmtKind::Do(_, sort, _, body, _) => {
+            write_inner(Word::Nest, *sort, body.get(), binders, row)
+        }
+        StmtKind::Atomic(_, sort, _, body, _) => {
+            write_inner(Word::Atomic, *sort, body.get(), binders, row)
+        }
+        StmtKind::Par(_, sort, _, other_sort, _, body, _, _, other, _) => {
+            write_par(*sort, *other_sort, body.get(), other.get(), binders, row)
+        }
         StmtKind::Proof(_) => Ok(()),
     }
 }
@@ -181,27 +198,40 @@ fn write_call<'a>(
     row.word(Word::Call)
 }
 
-// A statement that is not built yet, which counts as a free of `()`.
-fn write_not_built(row: &mut Row<'_>) -> Result<(), AllocError>
-    ensures { OnOk result (marks_of row.new ≡ not_built (marks_of row.old)) }
-{
-    row.push(Piece::Unit)?;
-    row.word(Word::Free)
-}
-
+// A word, a sort and an inner body.
 #[cycle(body)]
-fn write_do<'a>(
-    body: &'a Body,
+fn write_inner<'a>(
+    word: Word,
     sort: Sort,
+    body: &'a Body,
     binders: &mut Binders,
     row: &mut Row<'a>,
 ) -> Result<(), AllocError>
-    ensures row { OnOk result (marks_of row.new ≡ a_word w.Nest ∷ a_sort sort ∷ code_row (code [] body.now (names_of binders.old)) (marks_of row.old)) }
+    ensures row { OnOk result (marks_of row.new ≡ a_word word ∷ a_sort sort ∷ code_row (code [] body.now (names_of binders.old)) (marks_of row.old)) }
     ensures names { OnOk result (names_of binders.new ≡ names_of binders.old) }
 {
     write_body(body, binders, row)?;
     row.push(Piece::Sort(sort))?;
-    row.word(Word::Nest)
+    row.word(word)
+}
+
+// The two bodies of a fork, with their sorts.
+#[cycle(body)]
+fn write_par<'a>(
+    sort: Sort,
+    other_sort: Sort,
+    body: &'a Body,
+    other: &'a Body,
+    binders: &mut Binders,
+    row: &mut Row<'a>,
+) -> Result<(), AllocError>
+    ensures row { OnOk result (marks_of row.new ≡ a_word w.Par ∷ a_sort sort ∷ a_sort other_sort ∷ code_row (code [] body.now (names_of binders.old)) (code_row (code [] other.now (names_of binders.old)) (marks_of row.old))) }
+    ensures names { OnOk result (names_of binders.new ≡ names_of binders.old) }
+{
+    write_bodies(body, other, binders, row)?;
+    row.push(Piece::Sort(other_sort))?;
+    row.push(Piece::Sort(sort))?;
+    row.word(Word::Par)
 }
 
 // ---- ends

@@ -1,5 +1,5 @@
 // What is known where a proof stands.
-ghost use Rattle.std.specs.Prelude.{◌≡◌, ◌<◌, ◌≤◌, ◌^◌, ◌++◌, ◌∷◌, [], ℕ, List, All, OnOk, OnErr, IfOk, IfErr, None, Some, MatchOption};
+ghost use Rattle.std.specs.Prelude.{◌≡◌, ◌<◌, ◌≤◌, ◌-◌, ◌^◌, ◌++◌, ◌∷◌, [], ℕ, List, All, OnOk, OnErr, IfOk, IfErr, None, Some, MatchOption, min};
 ghost use Rattle.tht_tree.specs.declared.rule.RuleCode.TheVariants.{R10};
 ghost use Rattle.tht_tree.specs.declared.term.Term.{Term};
 ghost use Rattle.tht_tree.specs.declared.state.Hyp.{Hyp};
@@ -100,13 +100,35 @@ impl Known {
         if !formula_fits(&hyp.formula) {
             return Err(too_large);
         }
-        let nodes = self.nodes.saturating_add(term_size(&hyp.formula));
-        if !context_is_within(nodes) {
+        if !context_is_within(self.nodes_with(&hyp)) {
             return Err(too_large);
+        }
+        self.add(hyp)
+    }
+
+    /// Adds a hypothesis of any size, where a caller has seen that what is known is not too large in the end. The result is what its
+    /// name stood for before. After an `Err`, which is want of memory, nothing has changed; it also comes where what is known would
+    /// have 2^64 - 1 nodes or more, which no memory holds.
+    pub fn add(&mut self, hyp: Hyp) -> Result<Option<Local>, Refusal>
+        ensures ok { OnOk result (context_of self.new.state ≡ with_hyp (context_of self.old.state) hyp.name hyp.formula) }
+        ensures shadowed { IfOk result (λ was. was ≡ (context_of self.old.state).scope hyp.name) }
+        ensures err { OnErr result (context_of self.new.state ≡ context_of self.old.state) }
+        ensures memory { IfErr result (λ e. e ≡ Refusal.Memory) }
+    {
+        let nodes = self.nodes_with(&hyp);
+        if nodes == u64::MAX {
+            return Err(Refusal::Memory);
         }
         let shadowed = add_placed(&mut self.state, &mut self.places, hyp)?;
         self.nodes = nodes;
         Ok(shadowed)
+    }
+
+    // How many nodes what is known has with this hypothesis: at most 2^64 - 1, where the count stays.
+    fn nodes_with(&self, hyp: &Hyp) -> u64
+        ensures { result ≡ min (context_nodes (with_hyp (context_of self.now.state) hyp.now.name hyp.now.formula)) (2 ^ 64 - 1) }
+    {
+        self.nodes.saturating_add(term_size(&hyp.formula))
     }
 
     /// Takes the last hypothesis away, whose name stood for `shadowed` before: what was known without it is known again.

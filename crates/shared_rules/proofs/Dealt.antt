@@ -8,7 +8,7 @@ use Rattle.tht_tree.specs.declared.assn.Assn.{Assn}
 use Rattle.tht_tree.specs.declared.rule.RuleCode.TheVariants.{R1}
 use Rattle.tht_tree.specs.Rules.Context.{atom_at, without_atom, with_atom}
 use Rattle.tht_logic.specs.Rules.Calls.{Dealt, dealt}
-use Rattle.tht_logic.specs.Rules.Checking.{Checked, reject, on_ok, on_some}
+use Rattle.tht_logic.specs.Rules.Checking.{Checked, on_ok, on_some}
 use Rattle.tht_logic.specs.Rules.Gives.{Atoms}
 use Rattle.assn_laws.proofs.Answers.{some_same, ok_same, from_some, from_ok}
 use Rattle.assn_laws.proofs.AtomLists.{order, below, same, above, IsAbove, Ascends, Ascends-without, All-with, All-without, without_same, without_above, with_below, with_same, with_above}
@@ -54,7 +54,7 @@ without_absent i (e ∷ es) h =
     ]
 
 -- what holds of each atom with its number holds of the one with this number
-entry_at : (P : ℕ × Assn → Type 0) (i : ℕ) (p : Assn) (es : Atoms) → All P es → atom_at i es ≡ Some p → P (i, p)
+pub entry_at : (P : ℕ × Assn → Type 0) (i : ℕ) (p : Assn) (es : Atoms) → All P es → atom_at i es ≡ Some p → P (i, p)
 entry_at P i p [] h e = cc
 entry_at P i p (x ∷ es) h e =
     let tail = entry_at P i p es (All-tail P x es h) in
@@ -153,7 +153,7 @@ dealt_onto spot [] atoms given = Ok (record { given = given; frame = atoms })
 dealt_onto spot (i ∷ ns) atoms given = on_some spot R1 (atom_at i atoms) (λ p. dealt_onto spot ns (without_atom i atoms) (with_atom i p given))
 
 -- with one more that is given
-abbrev plus : ℕ → Assn → Dealt → Checked Dealt
+abbrev pub plus : ℕ → Assn → Dealt → Checked Dealt
 plus i p d = Ok (record d { given = with_atom i p d.given })
 
 onto_with : (spot : Spot) (ns : List ℕ) (atoms given : Atoms) (i : ℕ) (p : Assn) → IsAbsent i atoms → dealt_onto spot ns atoms (with_atom i p given) ≡ on_ok (dealt_onto spot ns atoms given) (plus i p)

@@ -1,2 +1,4 @@
 pub mod Dealt
 pub mod DealtSizes
+pub mod Splitting
+pub mod Gathered

@@ -1,12 +1,12 @@
 -- What is answered where atoms are dealt: what the rules say, unless memory was wanting.
-use Rattle.std.specs.Prelude.{◌≡◌, ℕ, Some, None, [], Result, Ok, Err, ⊤}
+use Rattle.std.specs.Prelude.{◌≡◌, ℕ, Some, None, Result, Ok, Err, ⊤}
 use Rattle.std.specs.BTreeMap.{BTreeMap}
 use Rattle.tht_tree.specs.declared.assn.Assn.{Assn}
 use Rattle.tht_tree.specs.declared.plain.Spot.{Spot}
 use Rattle.tht_tree.specs.declared.rule.RuleCode.TheVariants.{R1}
 use Rattle.tht_tree.specs.declared.state.State.{State}
 use Rattle.tht_tree.specs.Rules.Context.{Context, context_of, atom_at, without_atom, with_atom}
-use Rattle.tht_logic.specs.Rules.Checking.{Checked, reject}
+use Rattle.tht_logic.specs.Rules.Checking.{Checked}
 use Rattle.tht_logic.specs.Rules.Calls.{Dealt}
 use Rattle.tht_logic.specs.Rules.Gives.{Atoms}
 use Rattle.pure_proofs.specs.declared.refusal.Refusal.{Refusal}

@@ -1,3 +1,4 @@
 pub mod Cells
 pub mod Fronts
 pub mod Stepping
+pub mod Working

@@ -11,20 +11,21 @@ use Rattle.tht_tree.specs.Heaps.{own}
 use Rattle.tht_logic.proofs.Leaves.{only_a_value}
 use Rattle.tht_tree.specs.declared.plain.Memory.{Memory}
 use Rattle.std.specs.Option.{is_some}
-use Rattle.tht_logic.specs.Machine.{Bodies, Cmd, TermBig, Read, Write, Alloc, Free, Call, Prog, Ended, FrontBig, Plain, and_then, Mem, retag, put, alloc_cells, Ran, Said, Next, Cannot, Big, Longer, Touch, Wrong, on_next, at_leaf, plain_step, Tree, Leaf, Moved, work, step_of}
-use Rattle.code_form.specs.declared.branch.Ask.{Ask}
-use Rattle.code_form.specs.declared.branch.Ask.TheVariants as ask
-use Rattle.code_form.specs.declared.branch.Told.{Told}
-use Rattle.code_form.specs.declared.branch.Told.TheVariants.{Went, Got}
+use Rattle.tht_logic.specs.Machine.{Bodies, Cmd, TermBig, Read, Write, Alloc, Free, Publish, Retract, Call, Prog, Ended, FrontBig, Plain, Block, Fork, and_then, Mem, retag, put, alloc_cells, Ran, Said, Next, Cannot, Big, Longer, Touch, Wrong, on_next, at_leaf, plain_step, Tree, Leaf, Moved, work, step_of}
+use Rattle.code_form.specs.declared.ask.Ask.{Ask}
+use Rattle.code_form.specs.declared.ask.Ask.TheVariants as ask
+use Rattle.code_form.specs.declared.ways.Told.{Told}
+use Rattle.code_form.specs.declared.ways.Told.TheVariants.{Went, Got}
 use Rattle.code_form.specs.Codes.{bodies_of}
-use Rattle.code_form.specs.Branches.{ask_of, after, next_place, cells_of, new_cells, IsOf, IsSameButMoved, program_of}
+use Rattle.code_form.specs.Branches.{at_work, standing_of, next_place, IsOf, IsSameButMoved, program_of}
+use Rattle.code_form.specs.Fronts.{front_ask, front_after, cells_of, front_cells}
 use Rattle.code_form.specs.BranchValue.{BranchValue}
 use Rattle.code_form.specs.declared.code.Code.{Code}
 use Rattle.tagged_interp.specs.Labs.{LabValue, IsWhole, StandsFor, program, held, index_of}
 use Rattle.tagged_interp.specs.declared.lab.LabSaid.{LabSaid}
 use Rattle.tagged_interp.specs.Steps.{Goes, SaysTheStep, main_value}
 use Rattle.tagged_interp.proofs.Cells.{no_other, IsHeapOf, heap_set, heap_same, heap_laid}
-use Rattle.tagged_interp.proofs.Fronts.{Front, CallFront, at_read, at_write, at_alloc, at_free, at_call}
+use Rattle.tagged_interp.proofs.Fronts.{Front, CallFront, BlockFront, ForkFront, at_read, at_write, at_alloc, at_free, at_call}
 
 abbrev some_or : Value → Option Value → Value
 some_or d None = d
@@ -39,12 +40,12 @@ there_is (Some w) e = (w, refl)
 
 -- a branch that goes past its statement is whole again with the cells that the statement leaves
 pub still_whole : (code : Code) (main new : BranchValue) (cells more : List (Option Value)) (c : Cmd) → IsWhole code main cells → Front (program_of code main) c → IsOf code new
-    → IsSameButMoved main (main.next_index + new_cells (program_of code main)) new → length more ≡ length cells + cells_of c → IsWhole code new more
-still_whole code main new cells more c whole front of moved count =
-    let made : new_cells (program_of code main) ≡ cells_of c = ap new_cells front.is in
+    → standing_of code new ≡ at_work (program_of code new) → IsSameButMoved main (main.next_index + front_cells (program_of code main)) new → length more ≡ length cells + cells_of c → IsWhole code new more
+still_whole code main new cells more c whole front of works moved count =
+    let made : front_cells (program_of code main) ≡ cells_of c = ap front_cells front.is in
     let next = whole.next in
     let index = moved.next_index in
-    record { of_code = of; number = moved.number ∙ whole.number; next = omega arith }
+    record { of_code = of; works = works; number = moved.number ∙ whole.number; next = omega arith }
 
 module _ (old : LabValue) (m : Mem) (t : Tree) (stands : StandsFor old m t) where
   abbrev F : Bodies
@@ -82,13 +83,32 @@ module _ (old : LabValue) (m : Mem) (t : Tree) (stands : StandsFor old m t) wher
       stands = record { heap = h; made = made; tree = ap (Leaf 0) (sym p) };
     }
 
+  -- what is not built yet is a fault, or longer where nothing is left
+  pub publish_at : (a : Place) (left : ℕ) → Front (program old) (Publish a) → step_of F [] 0 (suc left) m t ≡ Wrong
+  publish_at a left front = stepped (Publish a) front left Wrong refl
+
+  pub retract_at : (a : Place) (left : ℕ) → Front (program old) (Retract a) → step_of F [] 0 (suc left) m t ≡ Wrong
+  retract_at a left front = stepped (Retract a) front left Wrong refl
+
+  pub block_at : (left : ℕ) → BlockFront (program old) → step_of F [] 0 (suc left) m t ≡ Wrong
+  block_at left front = works (Block front.body front.rest) (suc left) front.is
+
+  pub block_longer : BlockFront (program old) → step_of F [] 0 0 m t ≡ Longer
+  block_longer front = works (Block front.body front.rest) 0 front.is
+
+  pub fork_at : (left : ℕ) → ForkFront (program old) → step_of F [] 0 (suc left) m t ≡ Wrong
+  fork_at left front = works (Fork front.left front.right front.rest) (suc left) front.is
+
+  pub fork_longer : ForkFront (program old) → step_of F [] 0 0 m t ≡ Longer
+  fork_longer front = works (Fork front.left front.right front.rest) 0 front.is
+
   pub term_big_at : (left : ℕ) → Front (program old) TermBig → step_of F [] 0 (suc left) m t ≡ Big
   term_big_at left front = stepped TermBig front left Big refl
 
   -- what follows a statement that was carried out
-  follows : (c : Cmd) (front : Front (program old) c) (told : Told) (new : LabValue) → program new ≡ after F (next_place old.main) (program old) told
-      → program new ≡ after F (next_place old.main) (Plain c front.rest) told
-  follows c front told new e = e ∙ ap (λ p. after F (next_place old.main) p told) front.is
+  follows : (c : Cmd) (front : Front (program old) c) (told : Told) (new : LabValue) → program new ≡ front_after F (next_place old.main) (program old) told
+      → program new ≡ front_after F (next_place old.main) (Plain c front.rest) told
+  follows c front told new e = e ∙ ap (λ p. front_after F (next_place old.main) p told) front.is
 
   -- what the heap has at a place
   has : (p : Place) (o : Option Value) → held old.cells p ≡ o → m.heap p ≡ option_map (own 0) o
@@ -105,7 +125,7 @@ module _ (old : LabValue) (m : Mem) (t : Tree) (stands : StandsFor old m t) wher
       pub wrong_sort : (w : Value) → held old.cells p ≡ Some w → has_sort s w ≡ false → the_step ≡ Wrong
       wrong_sort w e other = stepped (Read s p) front left Wrong (rw (has p (Some w) e, other) refl)
 
-      pub was_read : (w : Value) → held old.cells p ≡ Some w → has_sort s w ≡ true → program new ≡ after F (next_place old.main) (program old) (Got w) → new.cells ≡ old.cells → Goes new 1 the_step
+      pub was_read : (w : Value) → held old.cells p ≡ Some w → has_sort s w ≡ true → program new ≡ front_after F (next_place old.main) (program old) (Got w) → new.cells ≡ old.cells → Goes new 1 the_step
       was_read w e sorted on same =
           goes (Read s p) front left new (retag m p (Some (own 0 w)), front.rest w) (rw (has p (Some w) e, sorted) refl) (follows (Read s p) front (Got w) new on)
           (rw same (heap_same old.cells m.heap p w stands.heap e)) (stands.made ∙ ap length (sym same))
@@ -114,7 +134,7 @@ module _ (old : LabValue) (m : Mem) (t : Tree) (stands : StandsFor old m t) wher
       pub no_cell_to_write : held old.cells p ≡ None → the_step ≡ Touch p
       no_cell_to_write e = stepped (Write p w) front left (Touch p) (rw (has p None e) refl)
 
-      pub was_written : (u : Value) → held old.cells p ≡ Some u → program new ≡ after F (next_place old.main) (program old) Went → new.cells ≡ slice_set old.cells (index_of p) (Some w) → Goes new 1 the_step
+      pub was_written : (u : Value) → held old.cells p ≡ Some u → program new ≡ front_after F (next_place old.main) (program old) Went → new.cells ≡ slice_set old.cells (index_of p) (Some w) → Goes new 1 the_step
       was_written u e on set =
           goes (Write p w) front left new (put m p (Some (own 0 w)), front.rest unit_value) (rw (has p (Some u) e) refl) (follows (Write p w) front Went new on)
           (rw set (heap_set old.cells m.heap p u (Some w) stands.heap e)) (stands.made ∙ sym (length-set old.cells (index_of p) (Some w)) ∙ ap length (sym set))
@@ -123,7 +143,7 @@ module _ (old : LabValue) (m : Mem) (t : Tree) (stands : StandsFor old m t) wher
       pub no_cell_to_free : held old.cells p ≡ None → the_step ≡ Touch p
       no_cell_to_free e = stepped (Free p) front left (Touch p) (rw (has p None e) refl)
 
-      pub was_freed : (u : Value) → held old.cells p ≡ Some u → program new ≡ after F (next_place old.main) (program old) Went → new.cells ≡ slice_set old.cells (index_of p) None → Goes new 1 the_step
+      pub was_freed : (u : Value) → held old.cells p ≡ Some u → program new ≡ front_after F (next_place old.main) (program old) Went → new.cells ≡ slice_set old.cells (index_of p) None → Goes new 1 the_step
       was_freed u e on set =
           goes (Free p) front left new (retag m p None, front.rest unit_value) (rw (has p (Some u) e) refl) (follows (Free p) front Went new on)
           (rw set (heap_set old.cells m.heap p u None stands.heap e)) (stands.made ∙ sym (length-set old.cells (index_of p) None) ∙ ap length (sym set))
@@ -132,7 +152,7 @@ module _ (old : LabValue) (m : Mem) (t : Tree) (stands : StandsFor old m t) wher
     first_place : IsWhole old.code old.main old.cells → next_place old.main ≡ Cell 0 (m.made 0)
     first_place whole = let a = whole.number in let b : old.main.next_index ≡ m.made 0 = whole.next ∙ sym stands.made in rw (a, b) refl
 
-    pub was_made : (vs : List Value) → Front (program old) (Alloc vs) → IsWhole old.code old.main old.cells → program new ≡ after F (next_place old.main) (program old) Went
+    pub was_made : (vs : List Value) → Front (program old) (Alloc vs) → IsWhole old.code old.main old.cells → program new ≡ front_after F (next_place old.main) (program old) Went
         → new.cells ≡ old.cells ++ map Some vs → Goes new 1 the_step
     was_made vs front whole on more =
         goes (Alloc vs) front left new (alloc_cells m 0 vs, front.rest (v.Loc (Cell 0 (m.made 0)))) refl
@@ -140,7 +160,7 @@ module _ (old : LabValue) (m : Mem) (t : Tree) (stands : StandsFor old m t) wher
         (rw more (heap_laid vs old.cells m (m.made 0) stands.made stands.heap))
         (let a = stands.made in let b = length-append old.cells (map Some vs) in let d = length-map vs Some in let e = ap length more in omega arith)
 
-    pub was_called : CallFront (program old) → program new ≡ after F (next_place old.main) (program old) Went → new.cells ≡ old.cells → Goes new 1 the_step
+    pub was_called : CallFront (program old) → program new ≡ front_after F (next_place old.main) (program old) Went → new.cells ≡ old.cells → Goes new 1 the_step
     was_called call on same =
         goes (Call call.name call.values) call.front left new (m, and_then (F call.name call.values) call.front.rest) refl (follows (Call call.name call.values) call.front Went new on)
         (rw same stands.heap) (stands.made ∙ ap length (sym same))
@@ -149,7 +169,7 @@ module _ (old : LabValue) (m : Mem) (t : Tree) (stands : StandsFor old m t) wher
 
 -- the branch has gone past the statement in front, which was told this
 abbrev pub HasPassed : LabValue → Told → LabValue → Type 0
-HasPassed old told new = program new ≡ after (bodies_of old.code) (next_place old.main) (program old) told
+HasPassed old told new = program new ≡ front_after (bodies_of old.code) (next_place old.main) (program old) told
 
 -- the step of branch 0, with one left at least, has led to this
 abbrev pub Carries : LabValue → LabValue → Type 0
@@ -157,28 +177,28 @@ Carries old new = (left : ℕ) (m : Mem) (t : Tree) → StandsFor old m t → Go
 
 -- in a Lab whose parts are these
 module _ (parts old new : LabValue) (same : parts ≡ old) where
-  asked : (a : Ask) → ask_of (program old) ≡ a → ask_of (program parts) ≡ a
-  asked a e = ap (λ l. ask_of (program l)) same ∙ e
+  asked : (a : Ask) → front_ask (program old) ≡ a → front_ask (program parts) ≡ a
+  asked a e = ap (λ l. front_ask (program l)) same ∙ e
 
-  pub has_read : (p : Place) (s : Sort) (w : Value) → ask_of (program old) ≡ ask.Read p s → held parts.cells p ≡ Some w → has_sort s w ≡ true → HasPassed parts (Got w) new → new.cells ≡ parts.cells → Carries old new
+  pub has_read : (p : Place) (s : Sort) (w : Value) → front_ask (program old) ≡ ask.Read p s → held parts.cells p ≡ Some w → has_sort s w ≡ true → HasPassed parts (Got w) new → new.cells ≡ parts.cells → Carries old new
   has_read p s w front there sorted on cells =
       subst (λ l. Carries l new) same (λ left m t stands. was_read parts m t stands new left p s (at_read (program parts) p s (asked (ask.Read p s) front)) w there sorted on cells)
 
-  pub has_written : (p : Place) (w : Value) → ask_of (program old) ≡ ask.Write p w → is_some (held parts.cells p) ≡ true → HasPassed parts Went new → new.cells ≡ slice_set parts.cells (index_of p) (Some w) → Carries old new
+  pub has_written : (p : Place) (w : Value) → front_ask (program old) ≡ ask.Write p w → is_some (held parts.cells p) ≡ true → HasPassed parts Went new → new.cells ≡ slice_set parts.cells (index_of p) (Some w) → Carries old new
   has_written p w front there on cells =
       let u = there_is (held parts.cells p) there in
       subst (λ l. Carries l new) same (λ left m t stands. was_written parts m t stands new left p w (at_write (program parts) p w (asked (ask.Write p w) front)) u.0 u.1 on cells)
 
-  pub has_freed : (p : Place) → ask_of (program old) ≡ ask.Free p → is_some (held parts.cells p) ≡ true → HasPassed parts Went new → new.cells ≡ slice_set parts.cells (index_of p) None → Carries old new
+  pub has_freed : (p : Place) → front_ask (program old) ≡ ask.Free p → is_some (held parts.cells p) ≡ true → HasPassed parts Went new → new.cells ≡ slice_set parts.cells (index_of p) None → Carries old new
   has_freed p front there on cells =
       let u = there_is (held parts.cells p) there in
       subst (λ l. Carries l new) same (λ left m t stands. was_freed parts m t stands new left p (at_free (program parts) p (asked (ask.Free p) front)) u.0 u.1 on cells)
 
-  pub has_made : (vs : List Value) → ask_of (program old) ≡ ask.Alloc vs → IsWhole parts.code parts.main parts.cells → HasPassed parts Went new → new.cells ≡ parts.cells ++ map Some vs → Carries old new
+  pub has_made : (vs : List Value) → front_ask (program old) ≡ ask.Alloc vs → IsWhole parts.code parts.main parts.cells → HasPassed parts Went new → new.cells ≡ parts.cells ++ map Some vs → Carries old new
   has_made vs front whole on cells =
       subst (λ l. Carries l new) same (λ left m t stands. was_made parts m t stands new left vs (at_alloc (program parts) vs (asked (ask.Alloc vs) front)) whole on cells)
 
-  pub has_called : ask_of (program old) ≡ ask.Call → HasPassed parts Went new → new.cells ≡ parts.cells → Carries old new
+  pub has_called : front_ask (program old) ≡ ask.Call → HasPassed parts Went new → new.cells ≡ parts.cells → Carries old new
   has_called front on cells =
       subst (λ l. Carries l new) same (λ left m t stands. was_called parts m t stands new left (at_call (program parts) (asked ask.Call front)) on cells)
 
@@ -195,6 +215,8 @@ module _ (lab : LabValue) (m : Mem) (t : Tree) (stands : StandsFor lab m t) (o :
   value_in_front (Ended v) w e = ap Ended (some_same v w e)
   value_in_front FrontBig w e = absurd (cc)
   value_in_front (Plain c rest) w e = absurd (cc)
+  value_in_front (Block p rest) w e = absurd (cc)
+  value_in_front (Fork p q rest) w e = absurd (cc)
 
   -- none can step where main has a value
   pub none_can : (w : Value) → o ≡ Some w → (b left : ℕ) → step_of (bodies_of lab.code) [] b left m t ≡ Cannot

@@ -7,7 +7,7 @@ use Rattle.tht_tree.specs.Heaps.{Heap, own}
 use Rattle.tht_logic.specs.Machine.{Mem, Prog, Tree, Leaf}
 use Rattle.code_form.specs.declared.code.Code.{Code}
 use Rattle.code_form.specs.BranchValue.{BranchValue}
-use Rattle.code_form.specs.Branches.{program_of, IsOf}
+use Rattle.code_form.specs.Branches.{at_work, program_of, standing_of, IsOf}
 
 -- the code of a file, its branch 0, and the cells that the branch has made, by their indexes: none where one was freed
 pub record LabValue : Type 0 where
@@ -15,9 +15,10 @@ pub record LabValue : Type 0 where
   pub main : BranchValue
   pub cells : List (Option Value)
 
--- the branch is of the code and has the number 0, and the next cell that it makes stands behind those that it has made
+-- the branch is of the code, is at work and has the number 0, and the next cell that it makes stands behind those that it has made
 pub record IsWhole (code : Code) (main : BranchValue) (cells : List (Option Value)) : Type 0 where
   pub of_code : IsOf code main
+  pub works : standing_of code main ≡ at_work (program_of code main)
   pub number : main.number ≡ 0
   pub next : main.next_index ≡ length cells
 

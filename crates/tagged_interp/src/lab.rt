@@ -1,12 +1,13 @@
 // The machine over numbered code, a step at a time.
-ghost use Rattle.std.specs.Prelude.{◌≡◌, ◌++◌, ◌+◌, ◌≤◌, ℕ, suc, true, Some, map, length, vec_len, vec_capacity, slice_set, IfOk, OnErr, IsSome};
+ghost use Rattle.std.specs.Prelude.{◌≡◌, ◌++◌, ◌+◌, ◌≤◌, ℕ, suc, true, Some, map, length, vec_len, vec_capacity, slice_set, IfOk, OnOk, OnErr, IsSome};
 ghost use Rattle.tht_tree.specs.Values.{has_sort as sort_is};
 ghost use Rattle.tht_logic.specs.Machine.{Mem, Tree};
 ghost use Rattle.tht_logic.specs.PlainPrograms.{is_plain_file};
 ghost use Rattle.tht_logic.specs.Procedures.{bodies_in};
 ghost use Rattle.tht_logic.specs.Runs.{start_of};
 ghost use Rattle.code_form.specs.Codes.{bodies_of};
-ghost use Rattle.code_form.specs.Branches.{ask_of};
+ghost use Rattle.code_form.specs.Branches.{IsOf, IsSameButMoved, at_work, next_place, program_of, standing_of};
+ghost use Rattle.code_form.specs.Fronts.{FrontTakes, front_after, front_ask, front_cells};
 ghost use Rattle.tagged_interp.specs.Labs.{StandsFor, program, held as held_in, index_of};
 ghost use Rattle.tagged_interp.specs.Steps.{SaysTheStep, IsUnchangedUnlessWent, main_value, IsLowestBranch};
 
@@ -23,7 +24,7 @@ pub enum LabSaid {
     Went { cost: u32 },
     /// A fault: at this place there is no cell that the branch may touch.
     Touch { place: Place },
-    /// A fault: the cell that is read holds a value of another sort.
+    /// A fault: the cell that is read holds a value of another sort, or a statement in front whose step is not built yet.
     Wrong,
     /// A term does not fit the machine.
     Big,
@@ -91,7 +92,7 @@ impl Lab {
         if branch != 0 {
             return Ok(LabSaid::Cannot);
         }
-        match self.main.ask(&self.code) {
+        match self.ask() {
             Ask::Value(_) => Ok(LabSaid::Cannot),
             Ask::FrontBig => Ok(LabSaid::Big),
             _ if left == 0 => Ok(LabSaid::Longer),
@@ -101,6 +102,13 @@ impl Lab {
             Ask::Alloc { values } => self.alloc(values.as_slice()),
             Ask::Free { place } => self.free(place),
             Ask::Call => self.call(),
+            // Their steps are not built yet: they are faults.
+            Ask::Publish { .. } => Ok(LabSaid::Wrong),
+            Ask::Retract { .. } => Ok(LabSaid::Wrong),
+            Ask::Atomic => Ok(LabSaid::Wrong),
+            Ask::Fork => Ok(LabSaid::Wrong),
+            Ask::BlockEnd => unreachable!(),
+            Ask::Waiting { .. } => unreachable!(),
         }
     }
 
@@ -108,7 +116,7 @@ impl Lab {
     pub fn value(&self) -> Option<Value>
         ensures { (m : Mem) (t : Tree) → StandsFor self.now m t → result ≡ main_value t }
     {
-        match self.main.ask(&self.code) {
+        match self.ask() {
             Ask::Value(value) => Some(value),
             _ => None,
         }
@@ -124,8 +132,15 @@ impl Lab {
         }
     }
 
+    // What stands in front of branch 0, which is at work.
+    fn ask(&self) -> Ask
+        ensures { result ≡ front_ask (program self.now) }
+    {
+        self.main.ask(&self.code)
+    }
+
     fn read(&mut self, place: Place, sort: Sort) -> Result<LabSaid, Memory>
-        requires front { ask_of (program self.old) ≡ Ask.Read place sort }
+        requires front { front_ask (program self.old) ≡ Ask.Read place sort }
         ensures says { IfOk result (λ said. (left : ℕ) → SaysTheStep self.old 0 (suc left) said self.new) }
         ensures keeps { IfOk result (λ said. IsUnchangedUnlessWent self.old said self.new) }
         ensures err { OnErr result (self.new ≡ self.old) }
@@ -136,12 +151,12 @@ impl Lab {
         if !has_sort(sort, value) {
             return Ok(LabSaid::Wrong);
         }
-        self.main.tell(&self.code, Told::Got(value))?;
+        go_past(&mut self.main, &self.code, Told::Got(value))?;
         Ok(LabSaid::Went { cost: 1 })
     }
 
     fn write(&mut self, place: Place, value: Value) -> Result<LabSaid, Memory>
-        requires front { ask_of (program self.old) ≡ Ask.Write place value }
+        requires front { front_ask (program self.old) ≡ Ask.Write place value }
         ensures says { IfOk result (λ said. (left : ℕ) → SaysTheStep self.old 0 (suc left) said self.new) }
         ensures keeps { IfOk result (λ said. IsUnchangedUnlessWent self.old said self.new) }
         ensures err { OnErr result (self.new ≡ self.old) }
@@ -149,25 +164,25 @@ impl Lab {
         if held(self.cells.as_slice(), place).is_none() {
             return Ok(LabSaid::Touch { place });
         }
-        self.main.tell(&self.code, Told::Went)?;
+        go_past(&mut self.main, &self.code, Told::Went)?;
         set(&mut self.cells, place, Some(value));
         Ok(LabSaid::Went { cost: 1 })
     }
 
     fn alloc(&mut self, values: &[Value]) -> Result<LabSaid, Memory>
-        requires front { ask_of (program self.old) ≡ Ask.Alloc values.now }
+        requires front { front_ask (program self.old) ≡ Ask.Alloc values.now }
         ensures says { IfOk result (λ said. (left : ℕ) → SaysTheStep self.old 0 (suc left) said self.new) }
         ensures keeps { IfOk result (λ said. IsUnchangedUnlessWent self.old said self.new) }
         ensures err { OnErr result (self.new ≡ self.old) }
     {
         self.cells.reserve(values.len())?;
-        self.main.tell(&self.code, Told::Went)?;
+        go_past(&mut self.main, &self.code, Told::Went)?;
         lay(&mut self.cells, values);
         Ok(LabSaid::Went { cost: 1 })
     }
 
     fn free(&mut self, place: Place) -> Result<LabSaid, Memory>
-        requires front { ask_of (program self.old) ≡ Ask.Free place }
+        requires front { front_ask (program self.old) ≡ Ask.Free place }
         ensures says { IfOk result (λ said. (left : ℕ) → SaysTheStep self.old 0 (suc left) said self.new) }
         ensures keeps { IfOk result (λ said. IsUnchangedUnlessWent self.old said self.new) }
         ensures err { OnErr result (self.new ≡ self.old) }
@@ -175,20 +190,35 @@ impl Lab {
         if held(self.cells.as_slice(), place).is_none() {
             return Ok(LabSaid::Touch { place });
         }
-        self.main.tell(&self.code, Told::Went)?;
+        go_past(&mut self.main, &self.code, Told::Went)?;
         set(&mut self.cells, place, None);
         Ok(LabSaid::Went { cost: 1 })
     }
 
     fn call(&mut self) -> Result<LabSaid, Memory>
-        requires front { ask_of (program self.old) ≡ Ask.Call }
+        requires front { front_ask (program self.old) ≡ Ask.Call }
         ensures says { IfOk result (λ said. (left : ℕ) → SaysTheStep self.old 0 (suc left) said self.new) }
         ensures keeps { IfOk result (λ said. IsUnchangedUnlessWent self.old said self.new) }
         ensures err { OnErr result (self.new ≡ self.old) }
     {
-        self.main.tell(&self.code, Told::Went)?;
+        go_past(&mut self.main, &self.code, Told::Went)?;
         Ok(LabSaid::Went { cost: 1 })
     }
+}
+
+// A branch at work goes past the plain statement in front of it, and is at work again.
+fn go_past(main: &mut BranchState, code: &Code, told: Told) -> Result<(), Memory>
+    requires of_code { IsOf code.now main.old }
+    requires works { standing_of code.now main.old ≡ at_work (program_of code.now main.old) }
+    requires takes { FrontTakes (program_of code.now main.old) told }
+    requires room { main.old.next_index ≤ 18446744073709551607 }
+    ensures of_code { OnOk result (IsOf code.now main.new) }
+    ensures works { OnOk result (standing_of code.now main.new ≡ at_work (program_of code.now main.new)) }
+    ensures program { OnOk result (program_of code.now main.new ≡ front_after (bodies_of code.now) (next_place main.old) (program_of code.now main.old) told) }
+    ensures same { OnOk result (IsSameButMoved main.old (main.old.next_index + front_cells (program_of code.now main.old)) main.new) }
+    ensures err { OnErr result (main.new ≡ main.old) }
+{
+    main.tell(code, told)
 }
 
 // What the cell at this place holds, if there is one.

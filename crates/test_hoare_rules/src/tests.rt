@@ -1,6 +1,4 @@
-// Small bodies, with their postconditions. What each answer must be is worked out by hand from the rules.
+// Bodies and statements of sources that the parser reads. What each answer must be is worked out by hand from the rules.
+mod bodies;
 mod commands;
-mod gives;
-mod small;
-mod statements;
-mod steps;
+mod sources;

@@ -68,6 +68,47 @@ const PAIRS: &[Pair] = &[
         false,
     ),
     Pair("{ dead refl { ret 1 by emp } }", "{ ret 1 by emp }", true),
+    Pair(
+        "{ x <- alloc (1); publish x at 1 by refl; ret 1 by emp }",
+        "{ y <- alloc (1); publish y at 2 by sym refl; ret 1 by emp }",
+        true,
+    ),
+    Pair(
+        "{ x <- alloc (1); publish x at 1 by refl; ret 1 by emp }",
+        "{ x <- alloc (1); retract x at 1 by refl; ret 1 by emp }",
+        false,
+    ),
+    Pair(
+        "{ x <- alloc (1); publish x at 1 by refl; ret 1 by emp }",
+        "{ x <- alloc (1); free x at 1 by refl; ret 1 by emp }",
+        false,
+    ),
+    Pair(
+        "{ x : nat <- atomic (1) { ret 1 by emp } { emp }; ret x by emp }",
+        "{ y : nat <- atomic () { ret 1 by @2 } { [1 = 1] }; ret y by emp }",
+        true,
+    ),
+    Pair(
+        "{ x : nat <- atomic () { ret 1 by emp } { emp }; ret x by emp }",
+        "{ x : nat <- do () { ret 1 by emp } { emp }; ret x by emp }",
+        false,
+    ),
+    // Both results of a fork are bound, the second inside of the first.
+    Pair(
+        "{ (x : nat, y : bool) <- par () { ret 1 by emp } { emp } () { ret true by emp } { emp }; ret x by emp }",
+        "{ (a : nat, b : bool) <- par (1) { ret 1 by @2 } { emp } () { ret true by emp } { [1 = 1] }; ret a by emp }",
+        true,
+    ),
+    Pair(
+        "{ (x : nat, y : nat) <- par () { ret 1 by emp } { emp } () { ret 1 by emp } { emp }; ret x by emp }",
+        "{ (x : nat, y : nat) <- par () { ret 1 by emp } { emp } () { ret 1 by emp } { emp }; ret y by emp }",
+        false,
+    ),
+    Pair(
+        "{ (x : nat, y : nat) <- par () { ret 1 by emp } { emp } () { ret 2 by emp } { emp }; ret x by emp }",
+        "{ (x : nat, y : nat) <- par () { ret 2 by emp } { emp } () { ret 1 by emp } { emp }; ret x by emp }",
+        false,
+    ),
 ];
 
 fn no_memory<E: Drop>(_: E) -> AllocError {

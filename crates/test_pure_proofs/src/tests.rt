@@ -154,3 +154,25 @@ fn assumes_and_forgets(rt: HostRuntime) -> Result<(), Fail> {
     );
     Ok(())
 }
+
+/// The formula `1 = x`, of three nodes, is known under this name beside `h : x = 1`: what the name stood for before, how many
+/// hypotheses there are then, and how many nodes these have.
+fn added(alloc: Global, text: &str) -> Result<(Option<Local>, usize, u64), Refusal> {
+    let state = state(alloc)?;
+    let mut known = Known::new(alloc, state)?;
+    let name = name(alloc, text)?;
+    let formula = one_is_x(alloc)?;
+    let shadowed = known.add(Hyp { name, formula })?;
+    let nodes = known.nodes;
+    Ok((shadowed, known.into_state().hyps.len(), nodes))
+}
+
+#[test]
+fn adds_a_hypothesis(rt: HostRuntime) -> Result<(), Fail> {
+    assert_eq!(rt; added(rt.alloc(), "g")?, (None, 2, 6));
+    assert_eq!(rt;
+        added(rt.alloc(), "x")?,
+        (Some(Local::Variable(Sort::Nat)), 2, 6)
+    );
+    Ok(())
+}

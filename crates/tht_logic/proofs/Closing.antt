@@ -2,7 +2,6 @@
 -- there is made from the program without them.
 use Rattle.std.proofs.Common.{◌≡◌, ◌∙◌, ℕ, suc, ◌+◌, Bool, true, false, arith, length, List, [], ◌∷◌, ◌++◌, map, Option, Some, None, refl, sym, ap, subst}
 use Rattle.std.specs.Prelude.{bytes_eq, if◌then◌else◌}
-use Rattle.tht_tree.specs.declared.plain.Value.TheVariants as v
 use Rattle.tht_tree.specs.declared.term.Term.{Term}
 use Rattle.tht_tree.specs.declared.body.Body.{Body, roll-Body, out-roll-Body, ind-Body}
 use Rattle.tht_tree.specs.declared.body.End.{End, roll-End}
@@ -10,10 +9,9 @@ use Rattle.tht_tree.specs.declared.body.EndKind.{EndKind, roll-EndKind, map-EndK
 use Rattle.tht_tree.specs.declared.body.EndKind.TheOpen as b
 use Rattle.tht_tree.specs.declared.body.Stmt.{Stmt, roll-Stmt}
 use Rattle.tht_tree.specs.declared.body.StmtKind.{StmtKind, roll-StmtKind, map-StmtKind}
-use Rattle.tht_tree.specs.Values.{is}
 use Rattle.tht_tree.specs.Syntax.{Names, position, Trm, lit, free, bound, len, off, neg, op, named, trm}
 use Rattle.tht_tree.specs.Normal.Putting.{put}
-use Rattle.tht_logic.specs.Programs.{Code, ret, test, read, write, alloc, drop, call, nest, Whole, Before, in_order, stmt_at, end_at, code, stmt_code, stmt_kind_code, end_code, end_kind_code}
+use Rattle.tht_logic.specs.Programs.{Code, ret, test, read, write, alloc, drop, publish, retract, call, nest, atomic, par, Whole, Before, in_order, stmt_at, end_at, code, stmt_code, stmt_kind_code, end_code, end_kind_code}
 use Rattle.tht_logic.specs.SamePrograms.{same_program}
 use Rattle.tht_logic.proofs.NamesInTerms.{all_free, name_in, bind_names}
 use Rattle.tht_logic.proofs.SameCodes.{same_code_exact}
@@ -58,8 +56,12 @@ module _ (roots xs : Names) where
   closing k (write t u p) = write (put (name_behind k) t) (put (name_behind k) u) (closing k p)
   closing k (alloc ts p) = alloc (map (put (name_behind k)) ts) (closing (suc k) p)
   closing k (drop t p) = drop (put (name_behind k) t) (closing k p)
+  closing k (publish t p) = publish (put (name_behind k) t) (closing k p)
+  closing k (retract t p) = retract (put (name_behind k) t) (closing k p)
   closing k (call f ts p) = call f (map (put (name_behind k)) ts) (closing (suc k) p)
   closing k (nest s p q) = nest s (closing k p) (closing (suc k) q)
+  closing k (atomic s p q) = atomic s (closing k p) (closing (suc k) q)
+  closing k (par s r p q rest) = par s r (closing k p) (closing k q) (closing (suc (suc k)) rest)
 
   -- ---- terms
 
@@ -132,10 +134,13 @@ module _ (roots xs : Names) where
   stmt_closes (b.Write t u n q) f g c ys = λ i. write (term_closed ys t i) (term_closed ys u i) (c ys i)
   stmt_closes (b.Alloc x ts) f g c ys = λ i. alloc (terms_closed ys ts i) (c (x ∷ ys) i)
   stmt_closes (b.Free t n q) f g c ys = λ i. drop (term_closed ys t i) (c ys i)
+  stmt_closes (b.Publish t n q) f g c ys = λ i. publish (term_closed ys t i) (c ys i)
+  stmt_closes (b.Retract t n q) f g c ys = λ i. retract (term_closed ys t i) (c ys i)
   stmt_closes (b.Call x n ts us z) f g c ys = λ i. call n (terms_closed ys ts i) (c (x ∷ ys) i)
   stmt_closes (b.Do x s ns body box) f g c ys = λ i. nest s (body.1 ys i) (c (x ∷ ys) i)
+  stmt_closes (b.Atomic x s ns body box) f g c ys = λ i. atomic s (body.1 ys i) (c (x ∷ ys) i)
+  stmt_closes (b.Par x s y r ns left box ms right last) f g c ys = λ i. par s r (left.1 ys i) (right.1 ys i) (c (y ∷ x ∷ ys) i)
   stmt_closes (b.Proof x) f g c ys = c ys
-  stmt_closes _ f g c ys = ap (drop (lit (is v.Unit))) (c ys)
 
   end_closes : (y : b.EndKind-F EndKinds StmtKinds Bodies Ends Stmts)
       → EndLevel (map-EndKind EndKinds StmtKinds Bodies Ends Stmts EndKind StmtKind Body End Stmt (λ x. x.0) (λ x. x.0) (λ x. x.0) (λ x. x.0) (λ x. x.0) y)

@@ -5,7 +5,7 @@ use Rattle.tht_tree.specs.declared.plain.Place.{Place}
 use Rattle.tht_tree.specs.declared.plain.Sort.{Sort}
 use Rattle.tht_tree.specs.Values.{has_sort, unit_value}
 use Rattle.tht_tree.specs.Heaps.{Held, held_value, with_value}
-use Rattle.tht_logic.specs.Machine.{Bodies, Cmd, TermBig, Read, Write, Alloc, Free, Call, Prog, Ended, FrontBig, Plain, Mem, retag, put, touched, Tree, Leaf, Said, Next, Cannot, Big, Longer, Touch, Wrong, Ran, on_next, at, at_leaf, plain_step, Moved, work, step_of}
+use Rattle.tht_logic.specs.Machine.{Bodies, Cmd, TermBig, Read, Write, Alloc, Free, Publish, Retract, Call, Prog, Ended, FrontBig, Plain, Block, Fork, Mem, retag, put, touched, Tree, Leaf, Said, Next, Cannot, Big, Longer, Touch, Wrong, Ran, on_next, at, at_leaf, plain_step, Moved, work, step_of}
 
 pub record CostsOne (r : Moved) (left : ℕ) : Type 0 where
   pub one : r.cost ≡ 1
@@ -44,6 +44,10 @@ module _ (F : Bodies) (m : Mem) where
   work_costs b left FrontBig r e = absurd (cc)
   work_costs b zero (Plain c rest) r e = absurd (cc)
   work_costs b (suc left) (Plain c rest) r e = ran_costs b left (plain_step F [] b false m c rest) r e
+  work_costs b zero (Block p rest) r e = absurd (cc)
+  work_costs b (suc left) (Block p rest) r e = absurd (cc)
+  work_costs b zero (Fork p q rest) r e = absurd (cc)
+  work_costs b (suc left) (Fork p q rest) r e = absurd (cc)
 
   if_costs : (here : Bool) (b left : ℕ) (p : Prog) (r : Moved) → (if here then work F [] b left m p else Cannot) ≡ Next r → CostsOne r left
   if_costs true b left p r e = work_costs b left p r e
@@ -68,6 +72,8 @@ module _ (F : Bodies) (m : Mem) where
   plain_can b (Write p v) rest e = at_can p (touched [] b false (m.heap p)) (write_says p v rest) (λ c z. cc) e
   plain_can b (Alloc vs) rest e = cc
   plain_can b (Free p) rest e = at_can p (touched [] b false (m.heap p)) (free_says p rest) (λ c z. cc) e
+  plain_can b (Publish p) rest e = cc
+  plain_can b (Retract p) rest e = cc
   plain_can b (Call f vs) rest e = cc
 
   pub only_a_value : (b left : ℕ) (p : Prog) → work F [] b left m p ≡ Cannot → (v : Value) × (p ≡ Ended v)
@@ -75,3 +81,7 @@ module _ (F : Bodies) (m : Mem) where
   only_a_value b left FrontBig e = absurd (cc)
   only_a_value b zero (Plain c rest) e = absurd (cc)
   only_a_value b (suc left) (Plain c rest) e = absurd (plain_can b c rest (ran_can b (plain_step F [] b false m c rest) e))
+  only_a_value b zero (Block p rest) e = absurd (cc)
+  only_a_value b (suc left) (Block p rest) e = absurd (cc)
+  only_a_value b zero (Fork p q rest) e = absurd (cc)
+  only_a_value b (suc left) (Fork p q rest) e = absurd (cc)

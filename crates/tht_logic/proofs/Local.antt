@@ -6,7 +6,7 @@ use Rattle.tht_tree.specs.declared.plain.Place.TheVariants.{Cell}
 use Rattle.tht_tree.specs.declared.plain.Value.{Value}
 use Rattle.tht_tree.specs.Values.{has_sort}
 use Rattle.tht_tree.specs.Heaps.{Held, shared, own, held_value, with_value, with_at}
-use Rattle.tht_logic.specs.Machine.{Bodies, Prog, Cmd, TermBig, Read, Write, Alloc, Free, Call, Mem, retag, put, laid, raised, alloc_cells, Said, Next, Wrong, touched, if_may, at, plain_step, is_in}
+use Rattle.tht_logic.specs.Machine.{Bodies, Prog, Cmd, TermBig, Read, Write, Alloc, Free, Publish, Retract, Call, Mem, retag, put, laid, raised, alloc_cells, Said, Next, Wrong, touched, if_may, at, plain_step, is_in}
 use Rattle.tht_logic.specs.Soundness.{IsMade, Leads}
 use Rattle.tht_tree.proofs.Cells.{place_tells}
 
@@ -136,4 +136,6 @@ plain_local F above b inside m (Free p) rest =
     at_leads p (touched above b inside (m.heap p)) _ _
     (λ c e. let t = touched_is above b inside (m.heap p) c e in
     changed_local b m (retag m p None) p t.0.0 None t.0.1 (none_of b) refl refl refl)
+plain_local F above b inside m (Publish p) rest = tt
+plain_local F above b inside m (Retract p) rest = tt
 plain_local F above b inside m (Call f vs) rest = record { next = refl; made = λ d. d; tags = λ p a v e. inr (v, e) }

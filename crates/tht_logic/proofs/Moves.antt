@@ -3,7 +3,7 @@ use Rattle.std.proofs.Common.{◌≡◌, ℕ, ◌<◌, ◌≤◌, eqb, true, fal
 use Rattle.tht_tree.specs.declared.plain.Place.{Place}
 use Rattle.tht_tree.specs.declared.plain.Value.{Value}
 use Rattle.tht_tree.specs.Heaps.{own}
-use Rattle.tht_logic.specs.Machine.{Bodies, Prog, Ended, FrontBig, Plain, Mem, Tree, Leaf, Moved, plain_step, work, step_of, is_in, branches}
+use Rattle.tht_logic.specs.Machine.{Bodies, Prog, Ended, FrontBig, Plain, Block, Fork, Wrong, Mem, Tree, Leaf, Moved, plain_step, work, step_of, is_in, branches}
 use Rattle.tht_logic.specs.Soundness.{IsMade, Leads, AreDistinct}
 use Rattle.tht_logic.proofs.Said.{leads_map, leads_on_next, leads_unless_zero, leads_if}
 use Rattle.tht_logic.proofs.Numbers.{decide, is_in_alone}
@@ -35,6 +35,8 @@ work_moves F above b n m FrontBig d = tt
 work_moves F above b n m (Plain c rest) d =
     leads_unless_zero n _ _ (leads_on_next (plain_step F above b false m c rest) _ _
     (leads_map (plain_step F above b false m c rest) _ _ (λ r x. stays above m b 1 (Plain c rest) r.1 r.0 d x) (plain_local F above b false m c rest)))
+work_moves F above b n m (Block p rest) d = leads_unless_zero n Wrong _ tt
+work_moves F above b n m (Fork p q rest) d = leads_unless_zero n Wrong _ tt
 
 pub step_moves : (F : Bodies) (above : List ℕ) (c n : ℕ) (m : Mem) (t : Tree) → AreDistinct above t → Leads (step_of F above c n m t) (Moves above m t)
 step_moves F above c n m (Leaf b p) d = leads_if (eqb b c) _ _ (work_moves F above b n m p d)

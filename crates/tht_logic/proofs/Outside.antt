@@ -2,7 +2,7 @@
 use Rattle.std.proofs.Common.{◌≡◌, ℕ, zero, suc, eqb, false, List, ap, subst}
 use Rattle.tht_tree.specs.declared.plain.Value.{Value}
 use Rattle.tht_tree.specs.Heaps.{Heap, shared_part}
-use Rattle.tht_logic.specs.Machine.{Bodies, Prog, Ended, FrontBig, Plain, Cmd, Mem, Tree, Leaf, Cannot, Big, plain_step}
+use Rattle.tht_logic.specs.Machine.{Bodies, Prog, Ended, FrontBig, Plain, Block, Fork, Cmd, Mem, Tree, Leaf, Cannot, Big, plain_step}
 use Rattle.tht_logic.specs.Soundness.{Assertion, Postcondition, Stands, Keeps}
 use Rattle.tht_logic.proofs.Said.{leads_map, leads_on_next, leads_unless_zero, leads_if, IsSafe-on_next, IsSafe-unless_zero, IsSafe-if}
 use Rattle.tht_logic.proofs.HeapLaws.{Joins-rest, Joins-front, Joins-swap}
@@ -20,6 +20,8 @@ abbrev value_of_leaf : Value → Tree → Value
 value_of_leaf d (Leaf b (Ended v)) = v
 value_of_leaf d (Leaf b FrontBig) = d
 value_of_leaf d (Leaf b (Plain c rest)) = d
+value_of_leaf d (Leaf b (Block p rest)) = d
+value_of_leaf d (Leaf b (Fork p q rest)) = d
 
 pub keeps_value : (F : Bodies) (I : Assertion) (k : ℕ) (above : List ℕ) (b : ℕ) (v : Value) (p : Heap) (Q : Postcondition) → Q v p → Keeps F I k above (Leaf b (Ended v)) p Q
 keeps_value F I zero above b v p Q h = tt

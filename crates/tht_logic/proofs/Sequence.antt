@@ -5,9 +5,9 @@ use Rattle.tht_tree.specs.declared.plain.Place.{Place}
 use Rattle.tht_tree.specs.declared.plain.Value.{Value}
 use Rattle.tht_tree.specs.Values.{unit_value, has_sort}
 use Rattle.tht_tree.specs.Heaps.{Heap, Held, own, held_value, with_value, Joins, private_part}
-use Rattle.tht_logic.specs.Machine.{Bodies, Prog, Ended, FrontBig, Plain, and_then, Cmd, TermBig, Read, Write, Alloc, Free, Call, Mem, retag, put, Ran, at, touched, plain_step, Said, Next, Cannot, Big, Longer, Touch, Wrong, on_next, Tree, Leaf, Moved, at_leaf, unless_zero, work, step_of, is_in}
+use Rattle.tht_logic.specs.Machine.{Bodies, Prog, Ended, FrontBig, Plain, Block, Fork, and_then, Cmd, TermBig, Read, Write, Alloc, Free, Publish, Retract, Call, Mem, retag, put, Ran, at, touched, plain_step, Said, Next, Cannot, Big, Longer, Touch, Wrong, on_next, Tree, Leaf, Moved, at_leaf, unless_zero, work, step_of, is_in}
 use Rattle.tht_logic.specs.Soundness.{Assertion, Postcondition, Stands, Keeps, Leaves, Leads, IsSafe}
-use Rattle.tht_logic.proofs.Said.{leads_map, leads_on_next, leads_both, leads_if, IsSafe-on_next}
+use Rattle.tht_logic.proofs.Said.{leads_map, leads_on_next, leads_both, leads_if, leads_unless_zero, IsSafe-on_next}
 use Rattle.tht_logic.proofs.HeapLaws.{Joins-rest, Joins-front, Joins-within}
 use Rattle.tht_logic.proofs.Outside.{when_stands, keeps_value, keeps_big}
 
@@ -17,6 +17,8 @@ pub and_then-and_then : (p : Prog) (f g : Value → Prog) → and_then (and_then
 and_then-and_then (Ended v) f g = refl
 and_then-and_then FrontBig f g = refl
 and_then-and_then (Plain c next) f g = λ i. Plain c (λ v. and_then-and_then (next v) f g i)
+and_then-and_then (Block p next) f g = λ i. Block p (λ v. and_then-and_then (next v) f g i)
+and_then-and_then (Fork p q next) f g = λ i. Fork p q (λ v w. and_then-and_then (next v w) f g i)
 
 abbrev carried : (Value → Prog) → Ran → Said Ran
 carried k r = Next (r.0, and_then r.1 k)
@@ -36,6 +38,8 @@ plain_then F above b inside m (Read s p) rest k = at_then k p _ _ _ (λ c. if_th
 plain_then F above b inside m (Write p v) rest k = at_then k p (touched above b inside (m.heap p)) (λ c. Next (put m p (Some (with_value c v)), rest unit_value)) _ (λ c. refl)
 plain_then F above b inside m (Alloc vs) rest k = refl
 plain_then F above b inside m (Free p) rest k = at_then k p (touched above b inside (m.heap p)) (λ c. Next (retag m p None, rest unit_value)) _ (λ c. refl)
+plain_then F above b inside m (Publish p) rest k = refl
+plain_then F above b inside m (Retract p) rest k = refl
 plain_then F above b inside m (Call f vs) rest k = ap (λ (x : Prog). Next (m, x)) (sym (and_then-and_then (F f vs) rest k))
 
 -- the tree with what follows its body
@@ -99,6 +103,12 @@ value_stands I above b x y p beside h f g m j k l s = record {
 not_value : (b c : ℕ) (x : Cmd) (r : Value → Prog) (v : Value) → Leaf b (Plain x r) ≡ Leaf c (Ended v) → ⊥
 not_value b c x r v e = cc
 
+not_block : (b c : ℕ) (p : Prog) (r : Value → Prog) (v : Value) → Leaf b (Block p r) ≡ Leaf c (Ended v) → ⊥
+not_block b c p r v e = cc
+
+not_fork : (b c : ℕ) (p q : Prog) (r : Value → Value → Prog) (v : Value) → Leaf b (Fork p q r) ≡ Leaf c (Ended v) → ⊥
+not_fork b c p q r v e = cc
+
 module _ (F : Bodies) (I : Assertion) (above : List ℕ) (b : ℕ) (rest : Value → Prog) (beside : Heap) (Q R : Postcondition) where
   -- what follows, for at most k steps: at each value with cells that satisfy the body's postcondition, beside the frame
   abbrev pub Follows : ℕ → Type 0
@@ -133,4 +143,18 @@ module _ (F : Bodies) (I : Assertion) (above : List ℕ) (b : ℕ) (rest : Value
         (leads_map (step_of F above x n m (Leaf b (Plain c p))) (λ r. Leaves (λ u i. Keeps F I k above u i Q) I g.0 r × IsLeafOf b r.tree) _
         (λ r y. let i = Joins-front g.1 y.0.1 in (i.0, i.2, y.0.2, after k (in_sequence k) r.tree y.1 y.0.0 i.0 i.1 y.0.3 (λ a l. follows a (omega (arith, l)))))
         (leads_both (step_of F above x n m (Leaf b (Plain c p))) _ _ (keeps.goes g.0 m t x n) (leads_if (eqb b x) _ _ (any_leaf b n (plain_step F above b false m c p))))));
+  }
+  in_sequence (suc k) (Block c p) q h j keeps follows = record {
+    ends = λ f m s x v e. absurd (not_block b x c _ v e);
+    safe = λ f m s x n.
+        let g = Joins-rest j s.parts in
+        keeps.safe g.0 m (value_stands I above b (and_then (Block c p) rest) (Block c p) q beside h f g.0 m j g.1 g.2 s) x n;
+    goes = λ f m s x n. leads_if (eqb b x) (unless_zero n Wrong) _ (leads_unless_zero n Wrong _ tt);
+  }
+  in_sequence (suc k) (Fork c d p) q h j keeps follows = record {
+    ends = λ f m s x v e. absurd (not_fork b x c d _ v e);
+    safe = λ f m s x n.
+        let g = Joins-rest j s.parts in
+        keeps.safe g.0 m (value_stands I above b (and_then (Fork c d p) rest) (Fork c d p) q beside h f g.0 m j g.1 g.2 s) x n;
+    goes = λ f m s x n. leads_if (eqb b x) (unless_zero n Wrong) _ (leads_unless_zero n Wrong _ tt);
   }

@@ -7,7 +7,7 @@ use Rattle.tht_tree.specs.declared.plain.Place.TheVariants.{Cell}
 use Rattle.tht_tree.specs.declared.plain.Sort.{Sort}
 use Rattle.tht_tree.specs.Values.{Val, is, unit_value, value_in, place_in, bool_of, has_sort, Env}
 use Rattle.tht_tree.specs.Syntax.{Trm}
-use Rattle.tht_logic.specs.Programs.{Code, ret, test, read, write, alloc, drop, call, nest}
+use Rattle.tht_logic.specs.Programs.{Code, ret, test, read, write, alloc, drop, publish, retract, call, nest, atomic, par}
 use Rattle.tht_tree.specs.Terms.{value_of, fits}
 use Rattle.tht_tree.specs.Heaps.{Heap, Held, shared, own, held_value, with_value, with_at}
 
@@ -20,19 +20,26 @@ pub data Cmd : Type 0 where
   Write : Place → Value → Cmd
   Alloc : List Value → Cmd
   Free : Place → Cmd
+  Publish : Place → Cmd
+  Retract : Place → Cmd
   Call : List ℕ → List Value → Cmd
 
--- a closed body, by what stands in front: a value, a term that does not fit, or a statement with what follows its answer
+-- A closed body, by what stands in front: a value, a term that does not fit, a plain statement, an atomic block, or a fork of two bodies; each with
+-- what follows its answer.
 pub data Prog : Type 0 where
   Ended : Value → Prog
   FrontBig : Prog
   Plain : Cmd → (Value → Prog) → Prog
+  Block : Prog → (Value → Prog) → Prog
+  Fork : Prog → Prog → (Value → Value → Prog) → Prog
 
 -- a body, and what follows its value
 abbrev pub and_then : Prog → (Value → Prog) → Prog
 and_then (Ended v) rest = rest v
 and_then FrontBig rest = FrontBig
 and_then (Plain c next) rest = Plain c (λ v. and_then (next v) rest)
+and_then (Block p next) rest = Block p (λ v. and_then (next v) rest)
+and_then (Fork p q next) rest = Fork p q (λ v w. and_then (next v w) rest)
 
 abbrev pub no_env : Env
 no_env x = is unit_value
@@ -56,8 +63,12 @@ closed vs (read s t p) = Plain (if_fit vs (t ∷ []) (Read s (place_in (value vs
 closed vs (write t u p) = Plain (if_fit vs (t ∷ u ∷ []) (Write (place_in (value vs t)) (value vs u))) (λ v. closed vs p)
 closed vs (alloc ts p) = Plain (if_fit vs ts (Alloc (map (value vs) ts))) (λ v. closed (is v ∷ vs) p)
 closed vs (drop t p) = Plain (if_fit vs (t ∷ []) (Free (place_in (value vs t)))) (λ v. closed vs p)
+closed vs (publish t p) = Plain (if_fit vs (t ∷ []) (Publish (place_in (value vs t)))) (λ v. closed vs p)
+closed vs (retract t p) = Plain (if_fit vs (t ∷ []) (Retract (place_in (value vs t)))) (λ v. closed vs p)
 closed vs (call f ts p) = Plain (if_fit vs ts (Call f (map (value vs) ts))) (λ v. closed (is v ∷ vs) p)
 closed vs (nest s p q) = and_then (closed vs p) (λ v. closed (is v ∷ vs) q)
+closed vs (atomic s p q) = Block (closed vs p) (λ v. closed (is v ∷ vs) q)
+closed vs (par s r p q rest) = Fork (closed vs p) (closed vs q) (λ v w. closed (is w ∷ is v ∷ vs) rest)
 
 -- ---- the memory
 
@@ -137,6 +148,7 @@ abbrev pub Bodies : Type 0
 Bodies = List ℕ → List Value → Prog
 
 -- One plain statement of branch b, inside an atomic block or not. After a call the body of the callee stands in front of what follows its result.
+-- The steps of `publish` and `retract` are not built yet: they are faults, so that nothing is claimed of a file with one.
 abbrev pub plain_step : Bodies → List ℕ → ℕ → Bool → Mem → Cmd → (Value → Prog) → Said Ran
 plain_step F above b inside m TermBig rest = Big
 plain_step F above b inside m (Read s p) rest =
@@ -144,6 +156,8 @@ plain_step F above b inside m (Read s p) rest =
 plain_step F above b inside m (Write p v) rest = at p (touched above b inside (m.heap p)) (λ c. Next (put m p (Some (with_value c v)), rest unit_value))
 plain_step F above b inside m (Alloc vs) rest = Next (alloc_cells m b vs, rest (v.Loc (Cell b (m.made b))))
 plain_step F above b inside m (Free p) rest = at p (touched above b inside (m.heap p)) (λ c. Next (retag m p None, rest unit_value))
+plain_step F above b inside m (Publish p) rest = Wrong
+plain_step F above b inside m (Retract p) rest = Wrong
 plain_step F above b inside m (Call f vs) rest = Next (m, and_then (F f vs) rest)
 
 -- the branches: one at work, with its number and its closed body
@@ -169,11 +183,14 @@ unless_zero (suc n) s = s
 abbrev pub at_leaf : ℕ → Ran → Moved
 at_leaf b r = record { cost = 1; mem = r.0; tree = Leaf b r.1 }
 
--- the step of a branch at work, with n left
+-- The step of a branch at work, with n left. The steps of blocks and of forks are not built yet: they are faults, so that nothing is claimed of a file
+-- with one.
 abbrev pub work : Bodies → List ℕ → ℕ → ℕ → Mem → Prog → Said Moved
 work F above b n m (Ended v) = Cannot
 work F above b n m FrontBig = Big
 work F above b n m (Plain c rest) = unless_zero n (on_next (plain_step F above b false m c rest) (λ r. Next (at_leaf b r)))
+work F above b n m (Block p rest) = unless_zero n Wrong
+work F above b n m (Fork p q rest) = unless_zero n Wrong
 
 -- the step of branch c in a tree that stands below these ancestors, with n left
 abbrev pub step_of : Bodies → List ℕ → ℕ → ℕ → Mem → Tree → Said Moved

@@ -7,7 +7,7 @@ use Rattle.tht_tree.specs.declared.decl.DeclKind.TheVariants as d
 use Rattle.tht_tree.specs.declared.file.Source1.{Source1}
 use Rattle.tht_tree.specs.Syntax.{Names, Trm, lit, len, off, neg, op, cons, cat}
 use Rattle.tht_tree.specs.Values.{seq}
-use Rattle.tht_logic.specs.Programs.{Code, ret, test, read, write, alloc, drop, call, nest, code, root_names}
+use Rattle.tht_logic.specs.Programs.{Code, ret, test, read, write, alloc, drop, publish, retract, call, nest, atomic, par, code, root_names}
 use Rattle.tht_logic.specs.Procedures.{Procedures, procedures_of, bound_names}
 
 -- ---- terms
@@ -37,8 +37,12 @@ is_plain_program known (read s t p) = no_sequence t && is_plain_program known p
 is_plain_program known (write t u p) = no_sequence t && (no_sequence u && is_plain_program known p)
 is_plain_program known (alloc ts p) = no_sequences ts && is_plain_program known p
 is_plain_program known (drop t p) = no_sequence t && is_plain_program known p
+is_plain_program known (publish t p) = no_sequence t && is_plain_program known p
+is_plain_program known (retract t p) = no_sequence t && is_plain_program known p
 is_plain_program known (call f ts p) = known f && (no_sequences ts && is_plain_program known p)
 is_plain_program known (nest s p q) = is_plain_program known p && is_plain_program known q
+is_plain_program known (atomic s p q) = is_plain_program known p && is_plain_program known q
+is_plain_program known (par s r p q rest) = is_plain_program known p && (is_plain_program known q && is_plain_program known rest)
 
 -- ---- files
 

@@ -1,10 +1,8 @@
 -- Programs, the erasure of bodies: proofs, proof steps, gives, boxes, the numbers of atoms, the arguments of calls in brackets, the names of
 -- hypotheses and the names that an author gave to variables are gone, a `case` is its first body, and a `dead` its body. The sorts of results stay:
--- the machine looks at that of a `read`, and the comparison of two programs at each. Statements that are not named here are not built yet, and no
--- file with one is accepted: such a statement frees what is no cell, a fault.
+-- the machine looks at that of a `read`, and the comparison of two programs at each.
 use Rattle.std.specs.Prelude.{ℕ, List, [], ◌∷◌, map}
 use Rattle.tht_tree.specs.declared.plain.Sort.{Sort}
-use Rattle.tht_tree.specs.declared.plain.Value.TheVariants as v
 use Rattle.tht_tree.specs.declared.body.Body.{Body, fold-Body}
 use Rattle.tht_tree.specs.declared.body.End.{End, fold-End}
 use Rattle.tht_tree.specs.declared.body.EndKind.{EndKind, fold-EndKind}
@@ -12,10 +10,10 @@ use Rattle.tht_tree.specs.declared.body.Stmt.{Stmt, fold-Stmt}
 use Rattle.tht_tree.specs.declared.body.StmtKind.{StmtKind, fold-StmtKind}
 use Rattle.tht_tree.specs.declared.body.EndKind.TheOpen as b
 use Rattle.tht_tree.specs.declared.file.Source1.{Source1}
-use Rattle.tht_tree.specs.Values.{is}
-use Rattle.tht_tree.specs.Syntax.{Trm, lit, Names, trm}
+use Rattle.tht_tree.specs.Syntax.{Trm, Names, trm}
 
--- a program: a return, a choice of two, and each statement with what follows it (`drop` is `free`, and `nest` is `do`)
+-- A program: a return, a choice of two, and each statement with what follows it (`drop` is `free`, and `nest` is `do`). An inner body stands with the
+-- sort of its result.
 pub data Code : Type 0 where
   ret : Trm → Code
   test : Trm → Code → Code → Code
@@ -23,8 +21,12 @@ pub data Code : Type 0 where
   write : Trm → Trm → Code → Code
   alloc : List Trm → Code → Code
   drop : Trm → Code → Code
+  publish : Trm → Code → Code
+  retract : Trm → Code → Code
   call : List ℕ → List Trm → Code → Code
   nest : Sort → Code → Code → Code
+  atomic : Sort → Code → Code → Code
+  par : Sort → Sort → Code → Code → Code → Code
 
 -- the names of the roots of a file: one of the forms that are built declares none
 abbrev pub root_names : Source1 → Names
@@ -47,10 +49,13 @@ module _ (roots : Names) where
   stmt_at (b.Write t u i p) next xs = write (trm roots xs t) (trm roots xs u) (next xs)
   stmt_at (b.Alloc x ts) next xs = alloc (map (trm roots xs) ts) (next (x ∷ xs))
   stmt_at (b.Free t i p) next xs = drop (trm roots xs t) (next xs)
+  stmt_at (b.Publish t i p) next xs = publish (trm roots xs t) (next xs)
+  stmt_at (b.Retract t i p) next xs = retract (trm roots xs t) (next xs)
   stmt_at (b.Call x f ts us g) next xs = call f (map (trm roots xs) ts) (next (x ∷ xs))
   stmt_at (b.Do x s ns body box) next xs = nest s (body xs) (next (x ∷ xs))
+  stmt_at (b.Atomic x s ns body box) next xs = atomic s (body xs) (next (x ∷ xs))
+  stmt_at (b.Par x s y r ns left box ms right more) next xs = par s r (left xs) (right xs) (next (y ∷ x ∷ xs))
   stmt_at (b.Proof x) next xs = next xs
-  stmt_at _ next xs = drop (lit (is v.Unit)) (next xs)
 
   abbrev pub end_at : b.EndKind-F Whole Before Whole Whole Before → Whole
   end_at (b.Ret t g) xs = ret (trm roots xs t)

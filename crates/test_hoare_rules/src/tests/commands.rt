@@ -3,25 +3,17 @@
 ghost use Rattle.std.specs.Prelude.{◌≤◌, All, IfOk};
 ghost use Rattle.tht_tree.specs.Rules.Context.{context_of};
 
-use super::small::no_memory;
-use hoare_rules::{Predicates, Refusal, is_built, take_command};
+use super::sources::{Refused, no_memory, parsed, refused};
+use hoare_rules::{Predicates, is_built, take_command};
 use sqlite_items::Items;
 use std::alloc::{AllocError, Global};
 use std::collections::BTreeMap;
 use std::test::Fail;
-use tht_parse::parse;
 use tht_tree::body::{Body, Stmt};
 use tht_tree::file::Source1;
 use tht_tree::plain::Sort;
 use tht_tree::rule::RuleCode;
 use tht_tree::state::{Local, State};
-
-fn parsed(alloc: Global, text: &str) -> Result<Source1, AllocError> {
-    if text.len() > 1_048_576 {
-        return Err(AllocError);
-    }
-    parse(alloc, text.as_bytes()).map_err(no_memory)
-}
 
 // ---- statements
 
@@ -34,9 +26,6 @@ const BEHIND: &str = ";
   ret 0 by emp
 }
 ";
-
-/// The line and the column of what is refused, and why.
-type Refused = (u32, u32, RuleCode);
 
 /// How many names, hypotheses and atoms are known, and how many atoms were numbered.
 #[derive(Clone, Copy, Debug, PartialEq, Eq)]
@@ -144,15 +133,7 @@ fn taken(
 ) -> Result<(Option<Refused>, Counts), AllocError> {
     let mut state = state_before(alloc)?;
     let said = take_command(alloc, predicates, &mut state, stmt);
-    let known = counts_of(&state);
-    match said {
-        Ok(()) => Ok((None, known)),
-        Err(Refusal::Rule(refusal)) => {
-            let spot = refusal.spot;
-            Ok((Some((spot.line, spot.column, refusal.code)), known))
-        }
-        Err(Refusal::Memory) => Err(AllocError),
-    }
+    Ok((refused(said)?, counts_of(&state)))
 }
 
 fn taken_of(

@@ -1,7 +1,7 @@
-use Rattle.std.proofs.Common.{refl, arith}
+use Rattle.std.proofs.Common.{arith}
 use Rattle.tht_tree.specs.declared.body.Stmt.{size-Stmt}
 use Rattle.code_form.proofs.Lists.{most_front}
-use Rattle.code_form.proofs.LoweredStmts.{in_ok, read_lowered, write_lowered, alloc_lowered, free_lowered, call_lowered, do_lowered, publish_lowered, retract_lowered, atomic_lowered, par_lowered, proof_lowered, end_lowered, ret_lowered, if_lowered, case_atom_lowered, case_bool_lowered, case_seq_lowered, dead_lowered, both_lowered}
+use Rattle.code_form.proofs.LoweredStmts.{in_ok, read_lowered, write_lowered, alloc_lowered, free_lowered, call_lowered, do_lowered, publish_lowered, retract_lowered, atomic_lowered, par_lowered, proof_lowered, end_lowered, ret_lowered, if_lowered, case_atom_lowered, case_bool_lowered, case_seq_lowered, dead_lowered, both_lowered, atomic_made, par_made}
 use Rattle.code_form.proofs.LoweredBodies.{made_first, made_turn, body_made_in}
 use Rattle.code_form.proofs.bodies.+body.Goals as goal
 
@@ -42,16 +42,22 @@ pub lower_stmt-returns-in-Proof : goal.lower_stmt-returns-in-Proof
 lower_stmt-returns-in-Proof t c = rw c.in-Proof.is (proof_lowered _ _ _)
 
 pub lower_stmt-returns-in-Publish : goal.lower_stmt-returns-in-Publish
-lower_stmt-returns-in-Publish t c = rw c.in-Publish.is (in_ok c.emit_fault.result (λ i e. publish_lowered _ _ i _ _ _ _ e) c.emit_fault.ensures)
+lower_stmt-returns-in-Publish t c = rw c.in-Publish.is (in_ok c.emit_publish.result (λ i e. publish_lowered _ _ i _ _ _ _ e) (rw c.get-in-Publish.ensures at c.emit_publish.ensures))
 
 pub lower_stmt-returns-in-Retract : goal.lower_stmt-returns-in-Retract
-lower_stmt-returns-in-Retract t c = rw c.in-Retract.is (in_ok c.emit_fault-in-Retract.result (λ i e. retract_lowered _ _ i _ _ _ _ e) c.emit_fault-in-Retract.ensures)
+lower_stmt-returns-in-Retract t c = rw c.in-Retract.is (in_ok c.emit_retract.result (λ i e. retract_lowered _ _ i _ _ _ _ e) (rw c.get-in-Retract.ensures at c.emit_retract.ensures))
 
 pub lower_stmt-returns-in-Atomic : goal.lower_stmt-returns-in-Atomic
-lower_stmt-returns-in-Atomic t c = rw c.in-Atomic.is (in_ok c.emit_fault-in-Atomic.result (λ i e. atomic_lowered _ _ i _ _ _ _ _ _ e) c.emit_fault-in-Atomic.ensures)
+lower_stmt-returns-in-Atomic t c = rw c.in-Atomic.is (in_ok c.lower_atomic.result (λ i made. atomic_lowered _ _ i _ _ _ _ _ _ made) (rw c.get-in-Atomic.ensures at c.lower_atomic.ensures))
 
 pub lower_stmt-returns-in-Par : goal.lower_stmt-returns-in-Par
-lower_stmt-returns-in-Par t c = rw c.in-Par.is (in_ok c.emit_fault-in-Par.result (λ i e. par_lowered _ _ i _ _ _ _ _ _ _ _ _ _ _ e) c.emit_fault-in-Par.ensures)
+lower_stmt-returns-in-Par t c = rw c.in-Par.is (in_ok c.lower_par.result (λ i made. par_lowered _ _ i _ _ _ _ _ _ _ _ _ _ _ made) (rw (c.get-in-Par.ensures, c.get-in-Par-2.ensures) at c.lower_par.ensures))
+
+pub lower_atomic-returns : goal.lower_atomic-returns
+lower_atomic-returns t c = in_ok c.emit.result (λ i e. atomic_made _ _ _ _ _ _ i c.in_ok-first.ensures e) c.emit.ensures
+
+pub lower_par-returns : goal.lower_par-returns
+lower_par-returns t c = in_ok c.emit.result (λ i e. par_made _ _ _ _ _ _ _ _ _ i c.in_ok-one.ensures c.in_ok-other.ensures e) c.emit.ensures
 
 -- ---- ends
 

@@ -21,6 +21,12 @@ decreases-lower_stmt l = 8 * size-StmtKind l.kind.now + 6
 abbrev pub decreases-lower_inner : goal.decreases-lower_inner
 decreases-lower_inner l = 8 * size-Body l.body.now + 8
 
+abbrev pub decreases-lower_atomic : goal.decreases-lower_atomic
+decreases-lower_atomic l = 8 * size-Body l.body.now + 8
+
+abbrev pub decreases-lower_par : goal.decreases-lower_par
+decreases-lower_par l = 8 * max (size-Body l.left.now) (size-Body l.right.now) + 8
+
 abbrev pub decreases-lower_end : goal.decreases-lower_end
 decreases-lower_end l = 8 * size-End l.end.now + 6
 

@@ -20,14 +20,17 @@ decreases-write_stmts l = 8 * goal.size-write_stmts l + 8
 abbrev pub decreases-write_stmt : goal.decreases-write_stmt
 decreases-write_stmt l = 8 * size-StmtKind l.stmt.now + 6
 
-abbrev pub decreases-write_do : goal.decreases-write_do
-decreases-write_do l = 8 * size-Body l.body.now + 8
+abbrev pub decreases-write_inner : goal.decreases-write_inner
+decreases-write_inner l = 8 * size-Body l.body.now + 8
 
 abbrev pub decreases-write_end : goal.decreases-write_end
 decreases-write_end l = 8 * size-EndKind l.end.now + 6
 
 abbrev pub decreases-write_bodies : goal.decreases-write_bodies
 decreases-write_bodies l = 8 * max (size-Body l.body.now) (size-Body l.other.now) + 8
+
+abbrev pub decreases-write_par : goal.decreases-write_par
+decreases-write_par l = 8 * max (size-Body l.body.now) (size-Body l.other.now) + 9
 
 abbrev pub decreases-write_test : goal.decreases-write_test
 decreases-write_test l = 8 * max (size-Body l.body.now) (size-Body l.other.now) + 9

@@ -9,4 +9,4 @@ pub returns-clause-says : goal.returns-clause-says
 returns-clause-says c =
     let set = c.set.ensures ∙ ap (λ l. slice_set l (index_of c.args.place) None) c.deref_mut.ensures.value in
     has_freed _ _ _ c.self.view_is c.args.place c.requires.front (ap (λ l. is_some (held l c.args.place)) (sym c.as_slice.ensures.value) ∙ ap is_some (sym c.held.ensures) ∙ c.is_none.ensures ∙ ap not c.if-is_none.false)
-    c.in_ok-tell.ensures.program (with_items_is c.self.inside.cells c.set.new.cells (ap length set ∙ length-set c.self.inside.cells.items (index_of c.args.place) None ∙ sym c.self.inside.cells.ok.0) ∙ set)
+    c.in_ok-go_past.ensures.program (with_items_is c.self.inside.cells c.set.new.cells (ap length set ∙ length-set c.self.inside.cells.items (index_of c.args.place) None ∙ sym c.self.inside.cells.ok.0) ∙ set)

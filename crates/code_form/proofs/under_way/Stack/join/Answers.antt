@@ -1,0 +1,16 @@
+use Rattle.std.proofs.Common.{sym, ◌∙◌, ap, OnOk, Result, Ok, Err}
+use Rattle.std.specs.Option.{option_copied}
+use Rattle.code_form.specs.StackValue.{StackValue}
+use Rattle.code_form.proofs.BlocksAhead.{behind_fork}
+use Rattle.code_form.proofs.under_way.Stack.join.Goals as goal
+
+on_ok : {T E A B : Type 0} (r : Result T E) → (A → B) → OnOk r A → OnOk r B
+on_ok (Ok x) f a = f a
+on_ok (Err e) f a = tt
+
+pub returns-clause-program : goal.returns-clause-program
+returns-clause-program c =
+    on_ok c.go_on_from.result
+    (λ e. e ∙ behind_fork c.args.code.now c.args.self.now c.in-At.at c.in-Some.node.now (sym (ap (λ (z : StackValue). z.front) c.self.view_is) ∙ c.in-At.is) (sym c.get.ensures.value ∙ ap option_copied c.in-Some.is)
+    c.in-Some-fork_of.split c.args.ends.x c.args.ends.y (sym c.fork_of.ensures ∙ c.in-Some-fork_of.is))
+    c.go_on_from.ensures.program
